@@ -48,19 +48,12 @@ nodeRule ws = record { number = 8; places = nodeCount ws; holds = nodeHolds ws }
 unfoldable pub bodyRule : List ℕ → Rule
 bodyRule ws = record { number = 9; places = suc (methodCount ws); holds = filledHolds ws }
 
--- the layout's rules in the order in which they are asked
+-- the rules of records, and all of the layout's, in the order in which they are asked
+unfoldable pub recordRules : List ℕ → List Rule
+recordRules ws = classRule ws ∷ fieldRule ws ∷ methodRule ws ∷ typeRule ws ∷ nodeRule ws ∷ bodyRule ws ∷ []
+
 unfoldable pub layoutRules : List ℕ → List Rule
-layoutRules ws =
-    formatRule ws
-    ∷ trailerRule ws
-    ∷ ceilingRule ws
-    ∷ classRule ws
-    ∷ fieldRule ws
-    ∷ methodRule ws
-    ∷ typeRule ws
-    ∷ nodeRule ws
-    ∷ bodyRule ws
-    ∷ []
+layoutRules ws = formatRule ws ∷ trailerRule ws ∷ ceilingRule ws ∷ recordRules ws
 
 -- the paper's number and place for each breach
 abbrev pub breachNumbers : Breach → Answer
@@ -87,11 +80,11 @@ pub record Lay (ws : List ℕ) (l : Layout) : Type 0 where
   pub node-count : l .«node_count» ≡ nodeCount ws
   pub main : l .main ≡ mainNode ws
   pub inputs : l .inputs ≡ inputCount ws
-  pub classes-at : length ws - trailer ws 0 ≡ 0
-  pub fields-at : length ws - trailer ws 1 ≡ l .fields
-  pub methods-at : length ws - trailer ws 2 ≡ l .methods
-  pub types-at : length ws - trailer ws 3 ≡ l .types
-  pub nodes-at : length ws - trailer ws 4 ≡ l .nodes
+  pub classes-at : trailer ws 0 ≡ length ws
+  pub fields-at : l .fields + trailer ws 1 ≡ length ws
+  pub methods-at : l .methods + trailer ws 2 ≡ length ws
+  pub types-at : l .types + trailer ws 3 ≡ length ws
+  pub nodes-at : l .nodes + trailer ws 4 ≡ length ws
   pub fields : l .fields ≡ l .«class_count»
   pub methods : l .methods ≡ l .fields + 3 * l .«field_count»
   pub types : l .types ≡ l .methods + 6 * l .«method_count»

@@ -88,9 +88,13 @@ reach ws (suc k) (suc e) =
     let r = reach ws k (suc e - nodeWord ws e 1) in
     cond (leb (nodeWord ws e 1) (suc e)) r Nowhere
 
--- a node's size is 1 and its operands' sizes
+-- a tree from node b to node n has that size
+unfoldable pub spans : (b n size : ℕ) → Bool
+spans b n size = eqb (b + size) (suc n)
+
+-- a node's size is 1 and its operands' sizes, when the operands begin at b
 unfoldable pub sizeIs : (n size : ℕ) → Found → Bool
-sizeIs n size (At b) = eqb size (suc n - b)
+sizeIs n size (At b) = spans b n size
 sizeIs n size Nowhere = false
 
 -- 8
@@ -106,7 +110,7 @@ bodyStart ws (suc i) = suc (methodWord ws i 5)
 
 -- a body that begins at b and ends at node n, which is in the table
 unfoldable pub bodyHolds : List ℕ → (b n : ℕ) → Bool
-bodyHolds ws b n = ltb n (nodeCount ws) && eqb (b + nodeWord ws n 1) (suc n)
+bodyHolds ws b n = ltb n (nodeCount ws) && spans b n (nodeWord ws n 1)
 
 -- 9: each method's body; at the method count main's, which ends the table
 unfoldable pub filledHolds : List ℕ → ℕ → Bool

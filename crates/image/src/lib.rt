@@ -12,17 +12,29 @@ use order::Answer;
 
 // The numbers of specs/Numbers.antt that code needs, under the same names.
 pub const TRAILER_WORDS: usize = 8;
+
 pub const FORMAT_NUMBER: usize = 1;
+
 pub const FIRST_USER_CLASS: usize = 4;
+
 pub const MOST_CLASSES: usize = 256;
+
 pub const MOST_FIELDS: usize = 1024;
+
 pub const MOST_METHODS: usize = 1024;
+
 pub const MOST_TYPE_WORDS: usize = 2048;
+
 pub const MOST_NODES: usize = 4096;
-pub const MOST_ARGUMENTS: usize = 8;
+
+pub const MOST_ARGUMENTS: u32 = 8;
+
 pub const MOST_INPUTS: usize = 8;
+
 pub const HIGHEST_NAME: u32 = 65535;
+
 pub const VARIABLES: u32 = 64;
+
 pub const WRITTEN_TAGS: u32 = 4;
 
 // Where each section begins, how many records it has, and the trailer's words 5 and 6. Classes begin at word 0.
@@ -157,15 +169,42 @@ pub fn breach_answer(b: Breach) -> Answer
     ensures { λ r. ⌜ r ≡ breachNumbers b ⌝ }
 {
     match b {
-        Breach::Format => Answer { number: 1, place: 0 },
-        Breach::Trailer(p) => Answer { number: 2, place: p as u64 },
-        Breach::Ceiling(p) => Answer { number: 3, place: p as u64 },
-        Breach::ClassRecord(p) => Answer { number: 4, place: p as u64 },
-        Breach::FieldRecord(p) => Answer { number: 5, place: p as u64 },
-        Breach::MethodRecord(p) => Answer { number: 6, place: p as u64 },
-        Breach::TypeWord(p) => Answer { number: 7, place: p as u64 },
-        Breach::NodeRecord(p) => Answer { number: 8, place: p as u64 },
-        Breach::Bodies(p) => Answer { number: 9, place: p as u64 },
+        Breach::Format => Answer {
+            number: 1,
+            place: 0,
+        },
+        Breach::Trailer(p) => Answer {
+            number: 2,
+            place: p as u64,
+        },
+        Breach::Ceiling(p) => Answer {
+            number: 3,
+            place: p as u64,
+        },
+        Breach::ClassRecord(p) => Answer {
+            number: 4,
+            place: p as u64,
+        },
+        Breach::FieldRecord(p) => Answer {
+            number: 5,
+            place: p as u64,
+        },
+        Breach::MethodRecord(p) => Answer {
+            number: 6,
+            place: p as u64,
+        },
+        Breach::TypeWord(p) => Answer {
+            number: 7,
+            place: p as u64,
+        },
+        Breach::NodeRecord(p) => Answer {
+            number: 8,
+            place: p as u64,
+        },
+        Breach::Bodies(p) => Answer {
+            number: 9,
+            place: p as u64,
+        },
     }
 }
 
@@ -174,7 +213,10 @@ pub fn laid_answer(a: Laid) -> Answer
     ensures { λ r. ⌜ r ≡ laidNumbers a ⌝ }
 {
     match a {
-        Laid::Sound(_) => Answer { number: 0, place: 0 },
+        Laid::Sound(_) => Answer {
+            number: 0,
+            place: 0,
+        },
         Laid::Broken(b) => breach_answer(b),
     }
 }

@@ -2,7 +2,7 @@
 use mathlib.Core.Bool.{Bool, true, false, cond}
 use mathlib.Core.Path.{_≡_, refl, sym, _∙_, ap}
 use mathlib.Core.List.{List, [], _∷_}
-use mathlib.Core.Logic.{_⊎_, inl, inr, ⊎-elim, _≢_}
+use mathlib.Core.Logic.{_⊎_, inl, inr, ⊎-elim, _↔_}
 use Prim.Native.Nat.{ℕ, zero, suc, _+_, _-_, _≤_, _<_}
 use native.Mathlib.Omega.{arith}
 use Rattle.order.specs.declared.Found.{Found}
@@ -146,8 +146,24 @@ unique rs a b s t =
         (λ (x : (a .number ≡ b .number) × (a .place ≤ b .place)).
         ⊎-elim (λ y. absurd (omega arith)) (λ (y : (b .number ≡ a .number) × (b .place ≤ a .place)). (x .0, omega arith)) l)
         k
+
     same : Lowest rs (a .number) (a .place) → Lowest rs (b .number) (b .place)
         → ((a .number < b .number) ⊎ ((a .number ≡ b .number) × (a .place ≤ b .place)))
         → ((b .number < a .number) ⊎ ((b .number ≡ a .number) × (b .place ≤ a .place)))
         → a ≡ b
     same k l x y = let z = both x y in λ i. record { number = z .0 i; place = z .1 i }
+
+-- For rules with rising numbers: an answer is the walk's exactly when the rules call for it,
+pub only : (rs : List Rule) → Rising 0 rs → (a : Answer) → (a ≡ answerOf rs) ↔ Tells rs a
+only rs g a = ((λ e. rw e (tells 0 rs g)), λ t. unique rs a (answerOf rs) t (tells 0 rs g))
+
+-- and it is 0 exactly when no rule is broken anywhere.
+pub accepts : (rs : List Rule) → Rising 0 rs → (answerOf rs ≡ accepted) ↔ Sound rs
+accepts rs g = (
+  λ e.
+      ⊎-elim
+      (λ (s : Sound rs × (accepted ≡ accepted)). s .0)
+      (λ (l : Lowest rs 0 0). absurd (omega (arith, above 0 rs g 0 0 (l .breach))))
+      (only rs g accepted .0 (sym e)),
+  λ s. sym (only rs g accepted .1 (inl (s, refl))),
+)

@@ -1,95 +1,75 @@
-use Rattle.image.specs.Laws.{past}
+-- `image::kind_of` meets its contract.
 use Prim.Native.Nat.{zero-le}
-use Rattle.image.specs.Laws.{no-kind}
-use Rattle.image.specs.Nodes.{kindOf}
-use native.Mathlib.Omega.{arith}
-use mathlib.Core.Path.{_≡_, refl, sym, _∙_, ap}
 use Rattle.image.proofs.kind_of.Statement.{statement}
+use Rattle.image.specs.Laws.{no-kind, past}
+use Rattle.image.specs.Nodes.{kindOf}
+use mathlib.Core.Path.{sym}
 use Rattle.image.proofs.kind_of.Tie as tie
-use Rattle.image.proofs.kind_of.Reads as reads
-use Rattle.image.proofs.kind_of.Lts as lts
 
--- src/lib.rt:82:1
 returns : tie.Need-returns
 unfolding kindOf
 returns c = rw (c .match .keys1)
 
--- src/lib.rt:82:1
 returns-2 : tie.Need-returns-2
 unfolding kindOf
 returns-2 c = rw (c .match .keys2)
 
--- src/lib.rt:82:1
 returns-3 : tie.Need-returns-3
 unfolding kindOf
 returns-3 c = rw (c .match .keys3)
 
--- src/lib.rt:82:1
 returns-4 : tie.Need-returns-4
 unfolding kindOf
 returns-4 c = rw (c .match .keys4)
 
--- src/lib.rt:82:1
 returns-5 : tie.Need-returns-5
 unfolding kindOf
 returns-5 c = rw (c .match .keys5)
 
--- src/lib.rt:82:1
 returns-6 : tie.Need-returns-6
 unfolding kindOf
 returns-6 c = rw (c .match .keys6)
 
--- src/lib.rt:82:1
 returns-7 : tie.Need-returns-7
 unfolding kindOf
 returns-7 c = rw (c .match .keys7)
 
--- src/lib.rt:82:1
 returns-8 : tie.Need-returns-8
 unfolding kindOf
 returns-8 c = rw (c .match .keys8)
 
--- src/lib.rt:82:1
 returns-9 : tie.Need-returns-9
 unfolding kindOf
 returns-9 c = rw (c .match .keys9)
 
--- src/lib.rt:82:1
 returns-10 : tie.Need-returns-10
 unfolding kindOf
 returns-10 c = rw (c .match .keys10)
 
--- src/lib.rt:82:1
 returns-11 : tie.Need-returns-11
 unfolding kindOf
 returns-11 c = rw (c .match .keys11)
 
--- src/lib.rt:82:1
 returns-12 : tie.Need-returns-12
 unfolding kindOf
 returns-12 c = rw (c .match .keys12)
 
--- src/lib.rt:82:1
 returns-13 : tie.Need-returns-13
 unfolding kindOf
 returns-13 c = rw (c .match .keys13)
 
--- src/lib.rt:82:1
 returns-14 : tie.Need-returns-14
 unfolding kindOf
 returns-14 c = rw (c .match .keys14)
 
--- src/lib.rt:82:1
 returns-15 : tie.Need-returns-15
 unfolding kindOf
 returns-15 c = rw (c .match .keys15)
 
--- src/lib.rt:82:1
 returns-16 : tie.Need-returns-16
 unfolding kindOf
 returns-16 c = rw (c .match .keys16)
 
--- src/lib.rt:82:1
 returns-17 : tie.Need-returns-17
 returns-17 c = let r = c .match .rest in sym (no-kind (c .before .args .k) (past (past (past (past (past (past (past (past (past (past (past (past (past (past (past (past (zero-le {n = c .before .args .k}) (r .0 .0 .0 .0 .0 .0 .0 .0 .0 .0 .0 .0 .0 .0 .0 .1)) (r .0 .0 .0 .0 .0 .0 .0 .0 .0 .0 .0 .0 .0 .0 .1)) (r .0 .0 .0 .0 .0 .0 .0 .0 .0 .0 .0 .0 .0 .1)) (r .0 .0 .0 .0 .0 .0 .0 .0 .0 .0 .0 .0 .1)) (r .0 .0 .0 .0 .0 .0 .0 .0 .0 .0 .0 .1)) (r .0 .0 .0 .0 .0 .0 .0 .0 .0 .0 .1)) (r .0 .0 .0 .0 .0 .0 .0 .0 .0 .1)) (r .0 .0 .0 .0 .0 .0 .0 .0 .1)) (r .0 .0 .0 .0 .0 .0 .0 .1)) (r .0 .0 .0 .0 .0 .0 .1)) (r .0 .0 .0 .0 .0 .1)) (r .0 .0 .0 .0 .1)) (r .0 .0 .0 .1)) (r .0 .0 .1)) (r .0 .1)) (r .1)))
 

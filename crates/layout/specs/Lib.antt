@@ -1,0 +1,2 @@
+-- What the layout check's promise says.
+pub mod Promise

@@ -1,0 +1,2 @@
+-- Laws of nodes and bodies.
+pub mod Laws

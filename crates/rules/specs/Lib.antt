@@ -1,0 +1,13 @@
+-- The rules of the language, in the order in which the paper and the report give them.
+pub mod Maps
+pub mod Trees
+pub mod Program
+pub mod Classes
+pub mod Typing
+pub mod Setting
+pub mod Sites
+pub mod Heap
+pub mod Conform
+pub mod Step
+pub mod Run
+pub mod Numbers

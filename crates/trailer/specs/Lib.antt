@@ -1,0 +1,2 @@
+-- What the trailer's tests show, as sums.
+pub mod Shape
