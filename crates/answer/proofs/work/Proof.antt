@@ -1,0 +1,58 @@
+-- `answer::work` keeps the line within the lent memory. The measure is what is left of the piece. Assumes nothing.
+use mathlib.Core.Path.{_≡_}
+use Prim.Native.Nat.{_≤_, _-_}
+use lib.ListN.{length}
+use borrow.Author.Needs.{needs}
+use Rattle.answer.specs.Kept.{Within}
+use Rattle.answer.proofs.work.Statement.{statement}
+use Rattle.answer.proofs.work.Tie as tie
+
+abbrev Inv-loop : tie.InvT-loop
+Inv-loop piece name₀ words₀ r₀ i₀ name words r i =
+    (i ≤ length piece) × (length name ≡ length name₀) × (length words ≡ length words₀) × Within (r .line) name₀ words₀
+
+abbrev μ-loop : tie.MeasureT-loop
+μ-loop piece name₀ words₀ r₀ i₀ name words r i = length piece - i
+
+loop-holds : tie.Need-loop-holds Inv-loop μ-loop
+loop-holds c = search needs
+
+shared-slice-read-turn : tie.Need-shared-slice-read-turn Inv-loop μ-loop
+shared-slice-read-turn c = search needs
+
+turn-requires : tie.Need-turn-requires Inv-loop μ-loop
+turn-requires c κs = search needs
+
+add-i : tie.Need-add-i Inv-loop μ-loop
+add-i c = search needs
+
+loop-less : tie.Need-loop-less Inv-loop μ-loop
+loop-less c = search needs
+
+loop-again : tie.Need-loop-again Inv-loop μ-loop
+loop-again c = search needs
+
+same-length : tie.Need-same-length Inv-loop μ-loop
+same-length c = search needs
+
+same-length-2 : tie.Need-same-length-2 Inv-loop μ-loop
+same-length-2 c = search needs
+
+returns : tie.Need-returns Inv-loop μ-loop
+returns c = search needs
+
+pub work-spec : {M : Type 1} → statement M
+work-spec =
+    tie.close
+    (tie.spec
+    Inv-loop
+    μ-loop
+    loop-holds
+    shared-slice-read-turn
+    turn-requires
+    add-i
+    loop-less
+    loop-again
+    same-length
+    same-length-2
+    returns)

@@ -1,0 +1,68 @@
+// What the programs share: words from bytes, decimal numbers from digits, blanks.
+ghost use mathlib.Core.Path.{_≡_};
+ghost use Prim.Native.Nat.{_/_, _≤_, min};
+ghost use lib.ListN.{length};
+ghost use Rattle.text.specs.Words.{Counts, Words, fourBytes};
+ghost use Rattle.text.specs.Decimal.{fedOf};
+
+fn least(a: usize, b: usize) -> usize
+    ensures { λ r. ⌜ (r ≤ a) × (r ≤ b) × (r ≡ min a b) ⌝ }
+{
+    if a < b { a } else { b }
+}
+
+// A word of four bytes, little end first.
+pub fn word32(a: u8, b: u8, c: u8, d: u8) -> u32
+    ensures { λ r. ⌜ r ≡ fourBytes a b c d ⌝ }
+{
+    (a as u32) + 256 * (b as u32) + 65536 * (c as u32) + 16777216 * (d as u32)
+}
+
+// Puts the whole words of `bytes` at the start of `out`, as many as it has room for: how many that is.
+pub fn words32(bytes: &[u8], out: &mut [u32]) -> usize
+    ensures count { λ r. ⌜ Counts r (now (out .exit)) ⌝ }
+    ensures all { λ r. ⌜ r ≡ min (length (now (bytes .entry)) / 4) (length (now (out .entry))) ⌝ }
+    ensures words { λ r. ⌜ Words r (now (bytes .entry)) (now (out .exit)) ⌝ }
+{
+    let n = least(bytes.len() / 4, out.len());
+    let mut k = 0;
+    let mut at = 0;
+    while k < n {
+        out[k] = word32(bytes[at], bytes[at + 1], bytes[at + 2], bytes[at + 3]);
+        k += 1;
+        at += 4;
+    }
+    n
+}
+
+// Space, tab, and the carriage return that may stand before a line's end.
+pub fn is_blank(b: u8) -> bool {
+    match b {
+        b' ' | b'\t' | b'\r' => true,
+        _ => false,
+    }
+}
+
+// What a byte makes of the decimal number before it.
+pub enum Fed {
+    Number(u32),
+    NoDigit,
+    TooLarge,
+}
+
+// The number n with one digit more, where the byte is a digit and the number is one of 32 bits.
+pub fn feed(n: u32, b: u8) -> Fed
+    ensures { λ r. ⌜ r ≡ fedOf n b ⌝ }
+{
+    if b < 48 {
+        return Fed::NoDigit;
+    }
+    if 57 < b {
+        return Fed::NoDigit;
+    }
+    let v = 10 * (n as u64) + (b - 48) as u64;
+    if 4294967295 < v {
+        return Fed::TooLarge;
+    }
+    Fed::Number(v as u32)
+}

@@ -1,0 +1,87 @@
+// What the tool writes: answers with their meaning, and errors.
+use libc::STDOUT_FILENO;
+use order::Answer;
+
+pub fn text(words: &[u8]) {
+    io::write_all(STDOUT_FILENO, words);
+}
+
+pub fn number(n: u64) {
+    io::print_decimal(STDOUT_FILENO, n);
+}
+
+pub fn usage() {
+    text(b"error: the arguments are: layout FILE, or demo\n");
+}
+
+// A file that gives no image.
+pub fn error(path: &[u8], what: &[u8]) {
+    text(b"error: ");
+    text(path);
+    text(what);
+    text(b"\n");
+}
+
+pub fn answer(a: Answer) {
+    text(b"number ");
+    number(a.number);
+    text(b" place ");
+    number(a.place);
+    text(b"\n");
+    subject(a.number, a.place);
+    rule(a.number);
+    text(b"\n");
+}
+
+// The table of the numbers has two columns. The first: of what the place is.
+fn subject(n: u64, place: u64) {
+    match n {
+        0 => text(b"the layout holds"),
+        1 => text(b"this is no image: "),
+        2 | 3 => at(b"trailer word ", place),
+        4 => at(b"class record ", place),
+        5 => at(b"field record ", place),
+        6 => at(b"method record ", place),
+        7 => at(b"type word ", place),
+        8 => at(b"node ", place),
+        9 => at(b"the body of method ", place),
+        _ => text(b"this number has no meaning here"),
+    }
+}
+
+// The second: what is asked there.
+fn rule(n: u64) {
+    match n {
+        1 => text(b"it has fewer than 8 words, or its last word, the format, is not 1"),
+        2 => text(
+            b" is broken: word 0 is the image's length, words 1 to 4 never rise, are 8 or more and cut no record, word 6 is at most the number of type words",
+        ),
+        3 => text(
+            b" leads over a ceiling: 256 classes (word 0), 1024 fields (1), 1024 methods (2), 2048 type words (3), 4096 nodes (4), 8 main inputs (6)",
+        ),
+        4 => text(
+            b" is broken or missing: there are 4 classes or more, the first 4 hold 0, and each later one holds the number of a class before it",
+        ),
+        5 => text(
+            b" is broken: its class is one of the image from 4 on, its name at most 65535, its type declared, and it stands behind the record before it by class, then name",
+        ),
+        6 => text(
+            b" is broken: class, name, result type and order are as for a field, it has at most 8 arguments, and their types lie within the type words",
+        ),
+        7 => text(
+            b" is broken: a declared type is 0 Void, 1 Bool, 2 Integer, or 4 plus the number of a class",
+        ),
+        8 => text(
+            b" is broken: its kind is 0 to 15, x and y are what the kind asks, its operands stand before it, and its size is 1 plus theirs",
+        ),
+        9 => text(
+            b" is broken: bodies fill the nodes in the order of the methods, and main, counted after the last method, ends at the last node",
+        ),
+        _ => {}
+    }
+}
+
+fn at(subject: &[u8], place: u64) {
+    text(subject);
+    number(place);
+}

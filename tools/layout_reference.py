@@ -1,0 +1,276 @@
+#!/usr/bin/env python3
+"""The layout of an image, numbers 1 to 9, written down a second time to compare with.
+
+Reads cases on standard input, one a line:
+
+    check NAME | the image's words in decimal, separated by blanks
+
+and prints `NAME number place` for each, or `line N: what is wrong` for a line
+that is no such case. An empty line is passed over.
+
+This file follows the written rules and nothing else, in their order, as
+plainly as it can. It is slow on purpose: each number is one function that
+lists every breach of it, and the answer is the lowest of them.
+"""
+import sys
+
+CEILINGS = [256, 1024, 1024, 2048, 4096]  # classes, fields, methods, type words, nodes
+RECORD = [1, 3, 6, 1, 4]                  # words in a record of each section
+MOST_ARGUMENTS = 8
+MOST_INPUTS = 8
+LAST_NAME = 65535
+LAST_VARIABLE = 63
+MOST_WORDS = 131072
+LONGEST_NAME = 64
+
+
+class Image:
+    """An image whose trailer is in order: its sections as lists of records."""
+
+    def __init__(self, words):
+        trailer = words[-8:]
+        ends = trailer[1:5] + [8]
+        sections = []
+        for i in range(5):
+            section = words[len(words) - trailer[i]:len(words) - ends[i]]
+            size = RECORD[i]
+            sections.append([section[k:k + size] for k in range(0, len(section), size)])
+        self.classes = [r[0] for r in sections[0]]
+        self.fields = sections[1]
+        self.methods = sections[2]
+        self.types = [r[0] for r in sections[3]]
+        self.nodes = sections[4]
+        self.main = trailer[5]
+        self.inputs = trailer[6]
+
+    def sizes(self):
+        return [len(self.classes), len(self.fields), len(self.methods), len(self.types), len(self.nodes)]
+
+    def is_class(self, c):
+        return c < len(self.classes)
+
+    def is_type(self, t):
+        """Void, Bool, Integer, the null type, or a class of the image."""
+        return t < 4 or self.is_class(t - 4)
+
+    def is_declared(self, t):
+        """A type that may be declared: any but the null type."""
+        return self.is_type(t) and t != 3
+
+
+# Number 1 and number 2 look at the words alone: there are no sections yet.
+
+def breaches_1(words):
+    if len(words) < 8 or words[-1] != 1:
+        yield 0
+
+
+def breaches_2(words):
+    trailer = words[-8:]
+    if trailer[0] != len(words):
+        yield 0
+    for i in range(1, 5):
+        above = trailer[i - 1]
+        here = trailer[i]
+        if here > above or here < 8:
+            yield i
+        elif (above - here) % RECORD[i - 1] != 0:  # the section that word i ends
+            yield i
+        elif i == 4 and (here - 8) % RECORD[4] != 0:  # nothing ends the nodes but the trailer
+            yield i
+    if trailer[6] > trailer[3] - trailer[4]:
+        yield 6
+
+
+def breaches_3(image):
+    for i, size in enumerate(image.sizes()):
+        if size > CEILINGS[i]:
+            yield i
+    if image.inputs > MOST_INPUTS:
+        yield 6
+
+
+def breaches_4(image):
+    for c, above in enumerate(image.classes):
+        if c < 4:
+            if above != 0:
+                yield c
+        elif above >= c:
+            yield c
+    if len(image.classes) < 4:
+        yield len(image.classes)
+
+
+def is_member(image, record):
+    """What a field and a method have in common: class, name, and a declared type."""
+    owner, name, result = record[0:3]
+    return owner >= 4 and image.is_class(owner) and name <= LAST_NAME and image.is_declared(result)
+
+
+def rises(table, i):
+    """Record i stands behind the record before it, by class, then name."""
+    return i == 0 or table[i - 1][0:2] < table[i][0:2]
+
+
+def breaches_5(image):
+    for i, record in enumerate(image.fields):
+        if not is_member(image, record) or not rises(image.fields, i):
+            yield i
+
+
+def breaches_6(image):
+    for i, record in enumerate(image.methods):
+        first, count = record[3:5]
+        if not is_member(image, record) or not rises(image.methods, i):
+            yield i
+        elif count > MOST_ARGUMENTS or first + count > len(image.types):
+            yield i
+
+
+def breaches_7(image):
+    for i, t in enumerate(image.types):
+        if not image.is_declared(t):
+            yield i
+
+
+def is_value(tag, payload):
+    """A value that may be written in a program: Unit, Null, a Bool or an Integer."""
+    if tag in (0, 1):
+        return payload == 0
+    if tag == 2:
+        return payload in (0, 1)
+    return tag == 3
+
+
+def operands(kind, y):
+    """How many operands a node of this kind has."""
+    return {0: 0, 1: 1, 2: 0, 3: 0, 4: 2, 5: 2, 6: 1, 7: 1, 8: 2, 9: 1 + y, 10: 1, 11: 2, 12: 3, 13: 2, 14: 1, 15: 2}[kind]
+
+
+def well_named(image, kind, x, y):
+    """x and y are what the kind asks of them."""
+    if kind in (0, 1):      # New, Cast
+        return image.is_class(x) and y == 0
+    if kind == 2:           # Value
+        return is_value(x, y)
+    if kind in (3, 6):      # Var, Assign
+        return x <= LAST_VARIABLE and y == 0
+    if kind in (7, 8):      # field get, field set
+        return x <= LAST_NAME and image.is_class(y)
+    if kind == 9:           # Call
+        return x <= LAST_NAME and y <= MOST_ARGUMENTS
+    if kind == 10:          # Block
+        return 1 <= x <= LAST_VARIABLE and image.is_declared(y)
+    if kind == 14:          # Throw
+        return image.is_type(x) and y == 0
+    if kind == 15:          # Try
+        return image.is_class(x) and 1 <= y <= LAST_VARIABLE
+    return x == 0 and y == 0  # Add, Eq, Seq, If, While
+
+
+def is_node(image, i):
+    kind, size, x, y = image.nodes[i]
+    if kind > 15 or not well_named(image, kind, x, y):
+        return False
+    begin = i  # where the operands found so far begin: none yet
+    for _ in range(operands(kind, y)):
+        end = begin - 1  # the operand ends one place before what follows it
+        if end < 0:
+            return False
+        begin = end - image.nodes[end][1] + 1
+    return begin >= 0 and size == i - begin + 1
+
+
+def breaches_8(image):
+    # A node is judged by the sizes of the nodes before it, so the first broken
+    # one is the only one whose place means anything.
+    for i in range(len(image.nodes)):
+        if not is_node(image, i):
+            yield i
+            return
+
+
+def breaches_9(image):
+    bodies = [record[5] for record in image.methods] + [image.main]
+    begin = 0
+    for place, body in enumerate(bodies):
+        if body >= len(image.nodes) or body + 1 - image.nodes[body][1] != begin:
+            yield place
+            return
+        begin = body + 1
+    if begin != len(image.nodes):
+        yield len(image.methods)
+
+
+def layout(words):
+    """The answer: the lowest number that is broken with its lowest place, or 0 0."""
+    for number, breaches in ((1, breaches_1), (2, breaches_2)):
+        places = list(breaches(words))
+        if places:
+            return number, min(places)
+    image = Image(words)
+    rules = (breaches_3, breaches_4, breaches_5, breaches_6, breaches_7, breaches_8, breaches_9)
+    for number, breaches in enumerate(rules, 3):
+        places = list(breaches(image))
+        if places:
+            return number, min(places)
+    return 0, 0
+
+
+class BadLine(Exception):
+    pass
+
+
+def split(text):
+    """The parts between blanks: space, tab and carriage return."""
+    for blank in (b"\t", b"\r"):
+        text = text.replace(blank, b" ")
+    return [part for part in text.split(b" ") if part]
+
+
+def word_of(text):
+    """The decimal number of 32 bits that the text is, or None."""
+    digits = text.lstrip(b"0") or b"0"
+    if not all(48 <= b <= 57 for b in digits) or len(digits) > 10:
+        return None
+    return int(digits) if int(digits) < 2 ** 32 else None
+
+
+def read_case(line):
+    """The name and the words of a case."""
+    head, bar, tail = line.partition(b"|")
+    parts = split(head)
+    if parts[:1] != [b"check"]:
+        raise BadLine("the question is not known (known: check)")
+    if len(parts) < 2:
+        raise BadLine("there is no name")
+    if len(parts[1]) > LONGEST_NAME:
+        raise BadLine("the name is longer than 64 bytes")
+    if len(parts) > 2 or not bar:
+        raise BadLine("there is no bar after the name")
+    words = []
+    for text in split(tail):
+        word = word_of(text)
+        if word is None:
+            raise BadLine("word %d is no decimal number of 32 bits" % len(words))
+        if len(words) == MOST_WORDS:
+            raise BadLine("there are more than 131072 words")
+        words.append(word)
+    return parts[1], words
+
+
+def main():
+    out = sys.stdout.buffer
+    for number, line in enumerate(sys.stdin.buffer, 1):
+        line = line.rstrip(b"\n")
+        if not split(line):
+            continue
+        try:
+            name, words = read_case(line)
+            out.write(b"%s %d %d\n" % ((name,) + layout(words)))
+        except BadLine as wrong:
+            out.write(b"line %d: %s\n" % (number, str(wrong).encode()))
+
+
+if __name__ == "__main__":
+    main()
