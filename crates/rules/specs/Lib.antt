@@ -11,3 +11,4 @@ pub mod Conform
 pub mod Step
 pub mod Run
 pub mod Numbers
+pub mod Bench

@@ -122,22 +122,3 @@ module _ (P : Program) where
       t ← typing e Γ
       ts ← typings es Γ
       ok (t ∷ ts)
-
--- the place of a tree
-unfoldable pub place : Expr → ℕ
-place (new p c) = p
-place (cast p c e) = p
-place (val p v) = p
-place (var p x) = p
-place (add p a b) = p
-place (eq p a b) = p
-place (assign p x e) = p
-place (get p f d e) = p
-place (put p f d a b) = p
-place (call p m e es) = p
-place (block p x t mv e) = p
-place (seq p a b) = p
-place (ite p c a b) = p
-place (while p c e) = p
-place (throw p t e) = p
-place (try p c x a b) = p
