@@ -43,7 +43,7 @@ isName n = leb n highestName
 unfoldable pub rises : (c n d m : ℕ) → Bool
 rises c n d m = ltb c d || (eqb c d && ltb n m)
 
--- what field and method records share: class, name, type, and the record before
+-- what field and method records share: class, name and type
 unfoldable pub memberHolds : (classes c n t : ℕ) → Bool
 memberHolds classes c n t = isUserClass classes c && isName n && isDeclared t classes
 

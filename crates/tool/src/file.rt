@@ -45,8 +45,6 @@ fn check_open(fd: i32, path: &[u8], words: &mut [u32]) {
         say::error(path, b": the file is longer than 131072 words of 4 bytes");
     } else if all.bytes % 4 != 0 {
         say::error(path, b": the length is no multiple of 4 bytes");
-    } else if all.bytes == 0 {
-        say::error(path, b": the file is empty");
     } else {
         say::answer(layout::check_layout(&words[..n]));
     }
