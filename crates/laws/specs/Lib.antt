@@ -1,0 +1,2 @@
+-- Laws of the rules' definitions, which a reader need not believe: the checker does.
+pub mod Maps
