@@ -1,2 +1,3 @@
 -- Laws of the rules' definitions, which a reader need not believe: the checker does.
 pub mod Maps
+pub mod Trees
