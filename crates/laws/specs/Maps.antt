@@ -142,3 +142,37 @@ pub map-tabulate {ℓ κ} : {A : Type ℓ} {B : Type κ} (g : A → B) (n : ℕ)
 unfolding tabulate
 map-tabulate g zero f = refl
 map-tabulate g (suc n) f = ap (g (f 0) ∷_) (map-tabulate g n (λ i. f (suc i)))
+
+-- The numbers from b on and below e.
+unfoldable pub range : (b e : ℕ) → List ℕ
+range b e = tabulate (e - b) (λ i. b + i)
+
+pub range-from : (b n : ℕ) → range b (b + n) ≡ tabulate n (λ i. b + i)
+unfolding range
+range-from b n = let e : b + n - b ≡ n = omega arith in rw e
+
+pub range-zero : (n : ℕ) → range 0 n ≡ tabulate n (λ i. i)
+unfolding range
+range-zero n = let e : n - 0 ≡ n = omega arith in rw e (tabulate-same n (λ i. 0 + i) (λ i. i) (λ i h. omega arith))
+
+pub range-none : (b : ℕ) → range b b ≡ []
+unfolding range tabulate
+range-none b = let e : b - b ≡ 0 = omega arith in rw e
+
+pub range-append : (b m e : ℕ) → b ≤ m → m ≤ e → range b m ++ range m e ≡ range b e
+unfolding range
+range-append b m e h k =
+    let p : m - b + (e - m) ≡ e - b = omega arith in
+    let q = tabulate-same (e - m) (λ i. m + i) (λ i. b + (m - b + i)) (λ i l. omega arith) in
+    rw (q, ← p) (tabulate-append (m - b) (e - m) (λ i. b + i))
+
+pub range-last : (b n : ℕ) → b ≤ n → range b (suc n) ≡ range b n ++ (n ∷ [])
+unfolding range
+range-last b n h =
+    let p : suc n - b ≡ suc (n - b) = omega arith in
+    let q : b + (n - b) ≡ n = omega arith in
+    rw (p, tabulate-last (n - b) (λ i. b + i), q)
+
+pub length-range : (b e : ℕ) → length (range b e) ≡ e - b
+unfolding range
+length-range b e = length-tabulate (e - b) (λ i. b + i)
