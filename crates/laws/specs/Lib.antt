@@ -2,3 +2,4 @@
 pub mod Maps
 pub mod Trees
 pub mod Classes
+pub mod Heap
