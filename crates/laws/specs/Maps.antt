@@ -138,6 +138,13 @@ module _ {ℓ} {A : Type ℓ} where
   from-beyond x (a ∷ l) y h =
       upd-other (from (suc x) l) x (some a) y (λ q. omega arith) ∙ from-beyond (suc x) l y (omega arith)
 
+-- what holds of every value of a map holds all over its table
+pub tabulate-all {ℓ} : {A : Type ℓ} (Q : A → Type 0) (n : ℕ) (f : ℕ → A) (i : ℕ) (d : A) → ((j : ℕ) → Q (f j)) → Q d → Q (getD (tabulate n f) i d)
+unfolding tabulate
+tabulate-all Q zero f i d h q = q
+tabulate-all Q (suc n) f zero d h q = h 0
+tabulate-all Q (suc n) f (suc i) d h q = tabulate-all Q n (λ j. f (suc j)) i d (λ j. h (suc j)) q
+
 pub map-tabulate {ℓ κ} : {A : Type ℓ} {B : Type κ} (g : A → B) (n : ℕ) (f : ℕ → A) → map g (tabulate n f) ≡ tabulate n (λ i. g (f i))
 unfolding tabulate
 map-tabulate g zero f = refl
