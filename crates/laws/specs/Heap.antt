@@ -7,9 +7,9 @@ use mathlib.Core.List.{List, [], _∷_, _++_, map, append-assoc}
 use Prim.Native.Nat.{ℕ, zero, suc, _+_, _*_, _-_, _/_, _%_, _≤_, _<_}
 use native.Mathlib.Omega.{arith}
 use native.Mathlib.Decide.{ℕ-discrete}
-use lib.Dec.{eqb, leb, ltb}
+use lib.Dec.{eqb, leb, ltb, eqb·suc-zero}
 use lib.ListN.{length, getD, set, take, drop, replicate, length-append, length-set, length-map, length-replicate, getD-replicate, List·getD-append, List·getD-eq-default}
-use lib.Seq.{getD-append-add, drop-at, take-append-add, drop-append-add, set-append-left, getD-set-same, getD-set-other, ext-getD}
+use lib.Seq.{getD-append-add, drop-at, take-append-add, drop-append-add, set-append-left, getD-set-same, getD-set-other, set-out, ext-getD}
 use borrow.Author.Tests.{eqb-true, leb-true, ltb-true, ltb-false, lt-ltb, le-ltb}
 use Rattle.order.specs.declared.Found.{Found}
 use Rattle.order.specs.declared.Found.the-variants.{At, Nowhere}
@@ -152,6 +152,25 @@ written-proper w = go (valueOf w) refl
 
 pub written-same : (v : Value) → Proper v → written (valueOf (wordOf v)) ≡ v
 written-same v h = ap written (encode-decode v h)
+
+pub length-defaults : (fs : List Field) → length (defaults fs) ≡ length fs
+unfolding defaults
+length-defaults [] = refl
+length-defaults (f ∷ fs) = ap suc (length-defaults fs)
+
+default-proper : (t : Ty) → Proper (default t)
+unfolding default
+default-proper Void = tt
+default-proper Boolean = tt
+default-proper Integer = omega arith
+default-proper NT = tt
+default-proper (Class c) = tt
+
+pub defaults-proper : (fs : List Field) (i : ℕ) → Proper (getD (defaults fs) i Value.Unit)
+unfolding defaults
+defaults-proper [] i = tt
+defaults-proper (f ∷ fs) zero = default-proper (f .type)
+defaults-proper (f ∷ fs) (suc i) = defaults-proper fs i
 
 -- The slots of words.
 module _ (P : Program) (hs : List ℕ) where
@@ -396,3 +415,108 @@ module _ (P : Program) (classes : ℕ) where
         tabulate-same (length (wordsOf h) / slotWords) _ (λ a. look h a) (λ a l. slot-back a)
         ∙ ap (λ (n : ℕ). tabulate n (λ a. look h a)) n
         ∙ tabulate-getD h free
+
+  -- A slot written keeps the shape.
+  pub shaped-set : (h : Heap) → Shaped P classes h → (a : ℕ) (r : Slot) → SlotShaped P classes r → Shaped P classes (set h a r)
+  shaped-set h s a r k = record { at = λ b. go b (ltb a (length h)) refl (ℕ-discrete b a) }
+    where
+      go : (b : ℕ) (t : Bool) → ltb a (length h) ≡ t → Dec (b ≡ a) → SlotShaped P classes (look (set h a r) b)
+      go b t e (no d) = rw (getD-set-other h a b r free d) (s .at b)
+      go b true e (yes q) = rw (q, getD-set-same h a r free (ltb-true _ _ e)) k
+      go b false e (yes q) = rw (set-out h a r (ltb-false _ _ e)) (s .at b)
+
+  -- a field written
+  pub object-put : (c : ℕ) (vs : List Value) → Object P classes c vs → (i : ℕ) (w : Value) → Proper w → Object P classes c (set vs i w)
+  object-put c vs o i w p =
+      record {
+        class = o .class;
+        count = length-set vs i w ∙ o .count;
+        few = rw length-set (o .few);
+        proper = λ j. go j (ltb i (length vs)) refl (ℕ-discrete j i);
+      }
+    where
+      go : (j : ℕ) (t : Bool) → ltb i (length vs) ≡ t → Dec (j ≡ i) → Proper (getD (set vs i w) j Value.Unit)
+      go j t e (no d) = rw (getD-set-other vs i j w Value.Unit d) (o .proper j)
+      go j true e (yes q) = rw (q, getD-set-same vs i w Value.Unit (ltb-true _ _ e)) p
+      go j false e (yes q) = rw (set-out vs i w (ltb-false _ _ e)) (o .proper j)
+
+  pub shaped-put : (h : Heap) → Shaped P classes h → (a c : ℕ) (vs : List Value) (i : ℕ) (w : Value) → look h a ≡ obj c vs → Proper w
+      → Shaped P classes (set h a (obj c (set vs i w)))
+  shaped-put h s a c vs i w e p = shaped-set h s a (obj c (set vs i w)) (object-put c vs (object-at h s a c vs e) i w p)
+
+  -- a new object
+  pub object-new : (c : ℕ) → c < classes → length (hasFields P c) ≤ mostFieldsAbove → Object P classes c (defaults (hasFields P c))
+  object-new c k l =
+      record {
+        class = k;
+        count = length-defaults (hasFields P c);
+        few = rw length-defaults l;
+        proper = defaults-proper (hasFields P c);
+      }
+
+  pub shaped-new : (h : Heap) → Shaped P classes h → (a c : ℕ) → c < classes → length (hasFields P c) ≤ mostFieldsAbove
+      → Shaped P classes (set h a (obj c (defaults (hasFields P c))))
+  shaped-new h s a c k l = shaped-set h s a (obj c (defaults (hasFields P c))) (object-new c k l)
+
+  -- The same in words: a word written, and the slots that it makes.
+  pub heap-put : (hs : List ℕ) → Words P classes hs → (a c : ℕ) (vs : List Value) (i : ℕ) (v : Value) → look (heapOf P hs) a ≡ obj c vs
+      → i < length vs → Proper v → heapOf P (set hs (slotWords * a + 1 + i) (wordOf v)) ≡ set (heapOf P hs) a (obj c (set vs i v))
+  heap-put hs w a c vs i v e l p =
+      let s = heap-shaped hs w in
+      let h = heapOf P hs in
+      ap (heapOf P)
+      (ap (λ (l : List ℕ). set l (slotWords * a + 1 + i) (wordOf v)) (sym (words-heap P classes hs w))
+      ∙ sym (words-put h (shaped-fits h s) a c vs i v e l))
+      ∙ heap-words (set h a (obj c (set vs i v))) (shaped-put h s a c vs i v e p)
+
+-- Free slots. The lowest one is free, and those below it are not.
+pub record Room (h : Heap) (a : ℕ) : Type 0 where
+  pub within : a < length h
+  pub empty : look h a ≡ free
+
+room-from : (h : Heap) (i a : ℕ) → freeFrom h i ≡ some a → (k : ℕ) × (a ≡ i + k) × Room h k
+unfolding freeFrom
+room-from [] i a e = absurd (let z : _≡_ {A = ℕ} 0 1 = cc in omega arith)
+room-from (free ∷ h) i a e = let q : i ≡ a = cc in (0, omega arith, record { within = omega arith; empty = refl })
+room-from (obj c vs ∷ h) i a e =
+    let r = room-from h (suc i) a e in
+    (suc (r .0), omega (arith, r .1), record { within = omega (arith, r .2 .within); empty = r .2 .empty })
+
+pub room : (h : Heap) (a : ℕ) → lowestFree h ≡ some a → Room h a
+unfolding lowestFree
+room h a e = let r = room-from h 0 a e in let q : a ≡ r .0 = omega (arith, r .1) in rw q (r .2)
+
+-- As a scan: it goes on where a slot is taken.
+abbrev pub taken : Slot → Bool
+taken free = false
+taken (obj c vs) = true
+
+abbrev pub place : Found → Option ℕ
+place (At a) = some a
+place Nowhere = none
+
+freeFrom-scan : (test : ℕ → Bool) (h : Heap) (i : ℕ) → ((a : ℕ) → a < length h → test (i + a) ≡ taken (look h a)) → freeFrom h i ≡ place (scan test (length h) i)
+unfolding freeFrom scan
+freeFrom-scan test [] i t = refl
+freeFrom-scan test (free ∷ h) i t = let z : i + 0 ≡ i = omega arith in rw (rw z at (t 0 (omega arith)))
+freeFrom-scan test (obj c vs ∷ h) i t =
+    let z : i + 0 ≡ i = omega arith in
+    rw (rw z at (t 0 (omega arith)))
+    (freeFrom-scan test h (suc i) (λ a l. let q : suc i + a ≡ i + suc a = omega arith in rw q (t (suc a) (omega arith))))
+
+pub lowestFree-scan : (test : ℕ → Bool) (h : Heap) → ((a : ℕ) → a < length h → test a ≡ taken (look h a)) → lowestFree h ≡ place (scan test (length h) 0)
+unfolding lowestFree
+lowestFree-scan test h t = freeFrom-scan test h 0 (λ a l. let q : 0 + a ≡ a = omega arith in rw q (t a l))
+
+-- over words: a slot is taken where its class word is not 0
+pub taken-word : (h : Heap) → Fits h → (a : ℕ) → not (eqb (getD (wordsOf h) (slotWords * a) 0) 0) ≡ taken (look h a)
+taken-word h f a =
+    let q : slotWords * a ≡ slotWords * a + 0 = omega arith in
+    rw (q, word-at h f a 0 (omega arith)) (go (look h a))
+  where
+    go : (s : Slot) → not (eqb (getD (slotWordsOf s) 0 0) 0) ≡ taken s
+    go free = rw (slot-free 0 (omega arith))
+    go (obj c vs) = rw (slot-class, eqb·suc-zero c)
+
+pub lowestFree-words : (h : Heap) → Fits h → lowestFree h ≡ place (scan (λ a. not (eqb (getD (wordsOf h) (slotWords * a) 0) 0)) (length h) 0)
+lowestFree-words h f = lowestFree-scan _ h (λ a l. taken-word h f a)
