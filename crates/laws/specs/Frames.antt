@@ -1,0 +1,161 @@
+-- Frames: the path from the root to the active place, and what a step there is for the whole.
+use mathlib.Core.Path.{_≡_, refl, sym, _∙_, ap}
+use mathlib.Core.Bool.{Bool, true, false}
+use mathlib.Core.Option.{Option, none, some}
+use mathlib.Core.List.{List, [], _∷_}
+use Prim.Native.Nat.{ℕ, zero, suc, _+_}
+use native.Mathlib.Omega.{arith}
+use lib.ListN.{length}
+use Rattle.words.specs.declared.Value.{Value}
+use Rattle.words.specs.declared.Ty.{Ty}
+use Rattle.rules.specs.Maps.{upd}
+use Rattle.rules.specs.Trees.{Expr, Exprs, new, cast, val, var, add, eq, assign, get, put, call, block, seq, ite, while, throw, try, nil, cons}
+use Rattle.rules.specs.Program.{Program}
+use Rattle.rules.specs.Heap.{Heap, look}
+use Rattle.rules.specs.Step.{Store, Out, Outs, thrown-at, under, unders, both, blocked, blockOut, consOut, tailOut, catchSlot, tryOut, step, steps}
+use Rattle.laws.specs.Maps.{upd-same, upd-restore}
+
+-- One constructor for each place that an active operand can stand in.
+pub data Frame : Type 0 where
+  castF : (p c : ℕ) → Frame
+  addL eqL : (p : ℕ) → Expr → Frame
+  addR eqR : (p q : ℕ) → Value → Frame
+  assignF : (p x : ℕ) → Frame
+  getF : (p f d : ℕ) → Frame
+  putL : (p f d : ℕ) → Expr → Frame
+  putR : (p f d q : ℕ) → Value → Frame
+  callL : (p m : ℕ) → Exprs → Frame
+  -- the receiver, the arguments that are values, each with its place, and those still to come
+  callR : (p m q : ℕ) → Value → List (ℕ × Value) → Exprs → Frame
+  -- what the variable holds outside
+  blockF : (p x : ℕ) → Ty → Option Value → Frame
+  seqF : (p : ℕ) → Expr → Frame
+  iteF : (p : ℕ) → Expr → Expr → Frame
+  throwF : (p : ℕ) → Ty → Frame
+  tryF : (p c x : ℕ) → Expr → Frame
+
+unfoldable pub operandsOf : List (ℕ × Value) → Expr → Exprs → Exprs
+operandsOf [] e es = cons e es
+operandsOf (v ∷ vs) e es = cons (val (v .0) (v .1)) (operandsOf vs e es)
+
+-- how a block is made: `block`, or `blocked` after a step
+abbrev pub Blocks : Type 0
+Blocks = ℕ → ℕ → Ty → Option Value → Expr → Expr
+
+-- The frame with e in it. A block remembers what its variable holds inside.
+unfoldable pub plug : Blocks → Frame → Store → Expr → Expr
+plug bl (castF p c) s e = cast p c e
+plug bl (addL p b) s e = add p e b
+plug bl (eqL p b) s e = eq p e b
+plug bl (addR p q v) s e = add p (val q v) e
+plug bl (eqR p q v) s e = eq p (val q v) e
+plug bl (assignF p x) s e = assign p x e
+plug bl (getF p f d) s e = get p f d e
+plug bl (putL p f d b) s e = put p f d e b
+plug bl (putR p f d q v) s e = put p f d (val q v) e
+plug bl (callL p m es) s e = call p m e es
+plug bl (callR p m q v vs es) s e = call p m (val q v) (operandsOf vs e es)
+plug bl (blockF p x t old) s e = bl p x t (s x) e
+plug bl (seqF p b) s e = seq p e b
+plug bl (iteF p a b) s e = ite p e a b
+plug bl (throwF p t) s e = throw p t e
+plug bl (tryF p c x b) s e = try p c x e b
+
+-- the variables as they are outside a frame
+unfoldable pub outer : Frame → Store → Store
+outer (castF p c) s = s
+outer (addL p b) s = s
+outer (eqL p b) s = s
+outer (addR p q v) s = s
+outer (eqR p q v) s = s
+outer (assignF p x) s = s
+outer (getF p f d) s = s
+outer (putL p f d b) s = s
+outer (putR p f d q v) s = s
+outer (callL p m es) s = s
+outer (callR p m q v vs es) s = s
+outer (blockF p x t old) s = upd s x old
+outer (seqF p b) s = s
+outer (iteF p a b) s = s
+outer (throwF p t) s = s
+outer (tryF p c x b) s = s
+
+-- the node of a frame
+unfoldable pub node : Frame → ℕ
+node (castF p c) = p
+node (addL p b) = p
+node (eqL p b) = p
+node (addR p q v) = p
+node (eqR p q v) = p
+node (assignF p x) = p
+node (getF p f d) = p
+node (putL p f d b) = p
+node (putR p f d q v) = p
+node (callL p m es) = p
+node (callR p m q v vs es) = p
+node (blockF p x t old) = p
+node (seqF p b) = p
+node (iteF p a b) = p
+node (throwF p t) = p
+node (tryF p c x b) = p
+
+module _ (P : Program) where
+  operands-next : (vs : List (ℕ × Value)) (e e' : Expr) (es : Exprs) (h h' : Heap) (s s' : Store) (d q : ℕ) → step P e h s ≡ Out.next d q h' s' e'
+      → steps P (operandsOf vs e es) h s ≡ Outs.next d q h' s' (operandsOf vs e' es)
+  unfolding step consOut tailOut operandsOf
+  operands-next [] e e' es h h' s s' d q i = rw i
+  operands-next (v ∷ vs) e e' es h h' s s' d q i = rw (operands-next vs e e' es h h' s s' d q i)
+
+  operands-stuck : (vs : List (ℕ × Value)) (e : Expr) (es : Exprs) (h : Heap) (s : Store) (d q : ℕ) → step P e h s ≡ Out.stuck d q
+      → steps P (operandsOf vs e es) h s ≡ Outs.stuck d q
+  unfolding step consOut tailOut operandsOf
+  operands-stuck [] e es h s d q i = rw i
+  operands-stuck (v ∷ vs) e es h s d q i = rw (operands-stuck vs e es h s d q i)
+
+  operands-thrown : (vs : List (ℕ × Value)) (e : Expr) (es : Exprs) (h : Heap) (s : Store) (a : ℕ) → step P e h s ≡ Out.thrown a
+      → steps P (operandsOf vs e es) h s ≡ Outs.thrown a
+  unfolding step consOut tailOut operandsOf
+  operands-thrown [] e es h s a i = rw i
+  operands-thrown (v ∷ vs) e es h s a i = rw (operands-thrown vs e es h s a i)
+
+  -- A step of the operand is a step of the whole, one deeper.
+  pub next-in : (F : Frame) (e e' : Expr) (h h' : Heap) (s s' : Store) (d q : ℕ) → step P e h s ≡ Out.next d q h' s' e'
+      → step P (plug block F s e) h (outer F s) ≡ Out.next (suc d) q h' (outer F s') (plug blocked F s' e')
+  unfolding plug outer step under unders both blockOut tryOut
+  next-in (castF p c) e e' h h' s s' d q i = rw i
+  next-in (addL p b) e e' h h' s s' d q i = rw i
+  next-in (eqL p b) e e' h h' s s' d q i = rw i
+  next-in (addR p r v) e e' h h' s s' d q i = rw i
+  next-in (eqR p r v) e e' h h' s s' d q i = rw i
+  next-in (assignF p x) e e' h h' s s' d q i = rw i
+  next-in (getF p f c) e e' h h' s s' d q i = rw i
+  next-in (putL p f c b) e e' h h' s s' d q i = rw i
+  next-in (putR p f c r v) e e' h h' s s' d q i = rw i
+  next-in (callL p m es) e e' h h' s s' d q i = rw i
+  next-in (callR p m r v vs es) e e' h h' s s' d q i = rw (operands-next vs e e' es h h' s s' d q i)
+  next-in (blockF p x t old) e e' h h' s s' d q i = rw (upd-restore s x old, i, upd-same s x old)
+  next-in (seqF p b) e e' h h' s s' d q i = rw i
+  next-in (iteF p a b) e e' h h' s s' d q i = rw i
+  next-in (throwF p t) e e' h h' s s' d q i = rw i
+  next-in (tryF p c x b) e e' h h' s s' d q i = rw i
+
+  -- where no rule fits the operand, none fits the whole
+  pub stuck-in : (F : Frame) (e : Expr) (h : Heap) (s : Store) (d q : ℕ) → step P e h s ≡ Out.stuck d q
+      → step P (plug block F s e) h (outer F s) ≡ Out.stuck (suc d) q
+  unfolding plug outer step under unders both blockOut tryOut
+  stuck-in (castF p c) e h s d q i = rw i
+  stuck-in (addL p b) e h s d q i = rw i
+  stuck-in (eqL p b) e h s d q i = rw i
+  stuck-in (addR p r v) e h s d q i = rw i
+  stuck-in (eqR p r v) e h s d q i = rw i
+  stuck-in (assignF p x) e h s d q i = rw i
+  stuck-in (getF p f c) e h s d q i = rw i
+  stuck-in (putL p f c b) e h s d q i = rw i
+  stuck-in (putR p f c r v) e h s d q i = rw i
+  stuck-in (callL p m es) e h s d q i = rw i
+  stuck-in (callR p m r v vs es) e h s d q i = rw (operands-stuck vs e es h s d q i)
+  stuck-in (blockF p x t old) e h s d q i = rw (upd-restore s x old, i)
+  stuck-in (seqF p b) e h s d q i = rw i
+  stuck-in (iteF p a b) e h s d q i = rw i
+  stuck-in (throwF p t) e h s d q i = rw i
+  stuck-in (tryF p c x b) e h s d q i = rw i
