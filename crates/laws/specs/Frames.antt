@@ -159,3 +159,69 @@ module _ (P : Program) where
   stuck-in (iteF p a b) e h s d q i = rw i
   stuck-in (throwF p t) e h s d q i = rw i
   stuck-in (tryF p c x b) e h s d q i = rw i
+
+  -- What a frame does with an address that its operand throws: a Try asks what stands there, and any other passes it outward.
+  unfoldable pub thrownOut : Frame → Heap → Store → (a : ℕ) → Out
+  thrownOut (castF p c) h s a = Out.next 0 p h s (thrown-at p a)
+  thrownOut (addL p b) h s a = Out.next 0 p h s (thrown-at p a)
+  thrownOut (eqL p b) h s a = Out.next 0 p h s (thrown-at p a)
+  thrownOut (addR p r v) h s a = Out.next 0 p h s (thrown-at p a)
+  thrownOut (eqR p r v) h s a = Out.next 0 p h s (thrown-at p a)
+  thrownOut (assignF p x) h s a = Out.next 0 p h s (thrown-at p a)
+  thrownOut (getF p f c) h s a = Out.next 0 p h s (thrown-at p a)
+  thrownOut (putL p f c b) h s a = Out.next 0 p h s (thrown-at p a)
+  thrownOut (putR p f c r v) h s a = Out.next 0 p h s (thrown-at p a)
+  thrownOut (callL p m es) h s a = Out.next 0 p h s (thrown-at p a)
+  thrownOut (callR p m r v vs es) h s a = Out.next 0 p h s (thrown-at p a)
+  thrownOut (blockF p x t old) h s a = Out.next 0 p h s (thrown-at p a)
+  thrownOut (seqF p b) h s a = Out.next 0 p h s (thrown-at p a)
+  thrownOut (iteF p b c) h s a = Out.next 0 p h s (thrown-at p a)
+  thrownOut (throwF p t) h s a = Out.next 0 p h s (thrown-at p a)
+  thrownOut (tryF p c x b) h s a = catchSlot P p h s c x b a (look h a)
+
+  pub thrown-in : (F : Frame) (e : Expr) (h : Heap) (s : Store) (a : ℕ) → step P e h s ≡ Out.thrown a
+      → step P (plug block F s e) h (outer F s) ≡ thrownOut F h (outer F s) a
+  unfolding plug outer step under unders both blockOut tryOut thrownOut
+  thrown-in (castF p c) e h s a i = rw i
+  thrown-in (addL p b) e h s a i = rw i
+  thrown-in (eqL p b) e h s a i = rw i
+  thrown-in (addR p r v) e h s a i = rw i
+  thrown-in (eqR p r v) e h s a i = rw i
+  thrown-in (assignF p x) e h s a i = rw i
+  thrown-in (getF p f c) e h s a i = rw i
+  thrown-in (putL p f c b) e h s a i = rw i
+  thrown-in (putR p f c r v) e h s a i = rw i
+  thrown-in (callL p m es) e h s a i = rw i
+  thrown-in (callR p m r v vs es) e h s a i = rw (operands-thrown vs e es h s a i)
+  thrown-in (blockF p x t old) e h s a i = rw (upd-restore s x old, i)
+  thrown-in (seqF p b) e h s a i = rw i
+  thrown-in (iteF p b c) e h s a i = rw i
+  thrown-in (throwF p t) e h s a i = rw i
+  thrown-in (tryF p c x b) e h s a i = rw i
+
+-- A stack of frames, the innermost first.
+unfoldable pub plugs : Blocks → List Frame → Store → Expr → Expr
+plugs bl [] s e = e
+plugs bl (F ∷ Fs) s e = plugs bl Fs (outer F s) (plug bl F s e)
+
+unfoldable pub outers : List Frame → Store → Store
+outers [] s = s
+outers (F ∷ Fs) s = outers Fs (outer F s)
+
+module _ (P : Program) where
+  -- depth and place of the whole's step are those of the stack and of the active place
+  pub nexts-in : (Fs : List Frame) (e e' : Expr) (h h' : Heap) (s s' : Store) (d q : ℕ) → step P e h s ≡ Out.next d q h' s' e'
+      → step P (plugs block Fs s e) h (outers Fs s) ≡ Out.next (length Fs + d) q h' (outers Fs s') (plugs blocked Fs s' e')
+  unfolding plugs outers
+  nexts-in [] e e' h h' s s' d q i = let z : 0 + d ≡ d = omega arith in rw z i
+  nexts-in (F ∷ Fs) e e' h h' s s' d q i =
+      let z : suc (length Fs) + d ≡ length Fs + suc d = omega arith in
+      rw z (nexts-in Fs (plug block F s e) (plug blocked F s' e') h h' (outer F s) (outer F s') (suc d) q (next-in P F e e' h h' s s' d q i))
+
+  pub stucks-in : (Fs : List Frame) (e : Expr) (h : Heap) (s : Store) (d q : ℕ) → step P e h s ≡ Out.stuck d q
+      → step P (plugs block Fs s e) h (outers Fs s) ≡ Out.stuck (length Fs + d) q
+  unfolding plugs outers
+  stucks-in [] e h s d q i = let z : 0 + d ≡ d = omega arith in rw z i
+  stucks-in (F ∷ Fs) e h s d q i =
+      let z : suc (length Fs) + d ≡ length Fs + suc d = omega arith in
+      rw z (stucks-in Fs (plug block F s e) h (outer F s) (suc d) q (stuck-in P F e h s d q i))
