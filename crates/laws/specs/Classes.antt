@@ -202,12 +202,15 @@ indexFrom-found (r ∷ L) d f i k h = go (eqb (r .owner) d && eqb (r .name) f) r
         → (indexFrom L d f (suc i) ≡ some k → (j : ℕ) × (k ≡ suc i + j) × Indexed L d f j)
         → (j : ℕ) × (k ≡ i + j) × Indexed (r ∷ L) d f j
     go true e q ih =
-        let z : i ≡ k = cc in
-        (0, omega arith, record {
-          within = omega arith;
-          owner = λ z. eqb-true _ _ (and-left (eqb (r .owner) d) (eqb (r .name) f) e);
-          name = λ z. eqb-true _ _ (and-right (eqb (r .owner) d) (eqb (r .name) f) e);
-        })
+        let z : i ≡ k = cc in (
+          0,
+          omega arith,
+          record {
+            within = omega arith;
+            owner = λ z. eqb-true _ _ (and-left (eqb (r .owner) d) (eqb (r .name) f) e);
+            name = λ z. eqb-true _ _ (and-right (eqb (r .owner) d) (eqb (r .name) f) e);
+          },
+        )
     go false e q ih =
         let s = ih q in
         (suc (s .0), omega (arith, s .1), record { within = omega (arith, s .2 .within); owner = s .2 .owner; name = s .2 .name })

@@ -2,18 +2,19 @@
 use mathlib.Core.Path.{_≡_, refl, sym, _∙_, ap}
 use mathlib.Core.Bool.{Bool, true, false}
 use mathlib.Core.Option.{Option, none, some}
-use mathlib.Core.List.{List, [], _∷_}
+use mathlib.Core.List.{List, [], _∷_, _++_, map}
 use Prim.Native.Nat.{ℕ, zero, suc, _+_}
 use native.Mathlib.Omega.{arith}
 use lib.ListN.{length}
+use borrow.Author.Tests.{eq-eqb}
 use Rattle.words.specs.declared.Value.{Value}
 use Rattle.words.specs.declared.Ty.{Ty}
 use Rattle.rules.specs.Maps.{upd}
 use Rattle.rules.specs.Trees.{Expr, Exprs, new, cast, val, var, add, eq, assign, get, put, call, block, seq, ite, while, throw, try, nil, cons}
 use Rattle.rules.specs.Program.{Program}
-use Rattle.rules.specs.Heap.{Heap, look}
-use Rattle.rules.specs.Step.{Store, Out, Outs, thrown-at, under, unders, both, blocked, blockOut, consOut, tailOut, catchSlot, tryOut, step, steps}
-use Rattle.laws.specs.Maps.{upd-same, upd-restore}
+use Rattle.rules.specs.Heap.{Heap, look, lowestFree}
+use Rattle.rules.specs.Step.{Store, Out, Outs, thrown-at, readRedex, addRedex, eqRedex, newRedex, castRedex, getRedex, putRedex, View, isSeq, isAssign, isVal, other, view, valueIn, assigned, remember, settle, blocked, redex, under, unders, both, ifOut, throwOut, blockOut, consOut, tailOut, callOut, catchSlot, tryOut, step, steps}
+use Rattle.laws.specs.Maps.{upd-same, upd-twice, upd-restore}
 
 -- One constructor for each place that an active operand can stand in.
 pub data Frame : Type 0 where
@@ -225,3 +226,130 @@ module _ (P : Program) where
   stucks-in (F ∷ Fs) e h s d q i =
       let z : suc (length Fs) + d ≡ length Fs + suc d = omega arith in
       rw z (stucks-in Fs (plug block F s e) h (outer F s) (suc d) q (stuck-in P F e h s d q i))
+
+-- A block whose body begins with `x := v` for its own x remembers v; any other stays as it is.
+unfoldable pub begun : (x : ℕ) → View → Option Value
+begun x (isSeq a b) = assigned x (view a)
+begun x (isAssign y a) = none
+begun x (isVal v) = none
+begun x other = none
+
+pub blocked-some : (p x : ℕ) (t : Ty) (v : Value) (e : Expr) → blocked p x t (some v) e ≡ block p x t (some v) e
+unfolding blocked
+blocked-some p x t v e = refl
+
+pub blocked-none : (p x : ℕ) (t : Ty) (e : Expr) → begun x (view e) ≡ none → blocked p x t none e ≡ block p x t none e
+unfolding blocked begun settle remember
+blocked-none p x t e h = go (view e) h
+  where
+    go : (w : View) → begun x w ≡ none → settle p x t e w ≡ block p x t none e
+    go (isSeq a b) q = rw q
+    go (isAssign y a) q = refl
+    go (isVal v) q = refl
+    go other q = refl
+
+pub blocked-begun : (p x : ℕ) (t : Ty) (q r k : ℕ) (v : Value) (b : Expr) → blocked p x t none (seq q (assign r x (val k v)) b) ≡ block p x t (some v) b
+unfolding blocked settle remember assigned valueIn view
+blocked-begun p x t q r k v b = rw (eq-eqb x x refl)
+
+-- every block of a stack stays as it is
+abbrev pub Plain : List Frame → Store → Expr → Type 0
+Plain [] s e = Unit {0}
+Plain (F ∷ Fs) s e = (plug blocked F s e ≡ plug block F s e) × Plain Fs (outer F s) (plug block F s e)
+
+pub plain-plugs : (Fs : List Frame) (s : Store) (e : Expr) → Plain Fs s e → plugs blocked Fs s e ≡ plugs block Fs s e
+unfolding plugs
+plain-plugs [] s e h = refl
+plain-plugs (F ∷ Fs) s e h = rw (h .0) (plain-plugs Fs (outer F s) (plug block F s e) (h .1))
+
+-- the three frames around a value that its block remembers are one, and x is set inside
+pub plugs-begun : (Fs : List Frame) (p x : ℕ) (t : Ty) (old : Option Value) (q r k : ℕ) (v : Value) (b : Expr) (s : Store) → s x ≡ none
+    → plugs blocked (assignF r x ∷ seqF q b ∷ blockF p x t old ∷ Fs) s (val k v)
+    ≡ plugs blocked (blockF p x t old ∷ Fs) (upd s x (some v)) b
+unfolding plugs plug outer
+plugs-begun Fs p x t old q r k v b s h =
+    rw (h, blocked-begun p x t q r k v b, upd-same s x (some v), upd-twice s x (some v) old, blocked-some p x t v b)
+
+-- Operands of a call: an operand that is a value gives its place to the next, and all of them are values at the end.
+pub operands-move : (vs : List (ℕ × Value)) (q : ℕ) (w : Value) (e : Expr) (es : Exprs)
+    → operandsOf vs (val q w) (cons e es) ≡ operandsOf (vs ++ ((q, w) ∷ [])) e es
+unfolding operandsOf
+operands-move [] q w e es = refl
+operands-move (v ∷ vs) q w e es = rw (operands-move vs q w e es)
+
+pub operands-values : (P : Program) (vs : List (ℕ × Value)) (q : ℕ) (w : Value) (h : Heap) (s : Store)
+    → steps P (operandsOf vs (val q w) nil) h s ≡ Outs.values (map (λ v. v .1) vs ++ (w ∷ []))
+unfolding operandsOf step consOut tailOut
+operands-values P [] q w h s = refl
+operands-values P (v ∷ vs) q w h s = rw (operands-values P vs q w h s)
+
+-- A node whose operands are values.
+module _ (P : Program) (p : ℕ) (h : Heap) (s : Store) where
+  pub step-new : (c : ℕ) → step P (new p c) h s ≡ redex p h s (newRedex P h c (lowestFree h))
+  unfolding step
+  step-new c = refl
+
+  pub step-var : (x : ℕ) → step P (var p x) h s ≡ redex p h s (readRedex h (s x))
+  unfolding step
+  step-var x = refl
+
+  pub step-val : (v : Value) → step P (val p v) h s ≡ Out.value p v
+  unfolding step
+  step-val v = refl
+
+  pub step-while : (c e : Expr) → step P (while p c e) h s ≡ Out.next 0 p h s (ite p c (seq p e (while p c e)) (val p Value.Unit))
+  unfolding step
+  step-while c e = refl
+
+  pub step-cast : (c q : ℕ) (v : Value) → step P (cast p c (val q v)) h s ≡ redex p h s (castRedex P h c v)
+  unfolding step under
+  step-cast c q v = refl
+
+  pub step-add : (q r : ℕ) (v w : Value) → step P (add p (val q v) (val r w)) h s ≡ redex p h s (addRedex h v w)
+  unfolding step under both
+  step-add q r v w = refl
+
+  pub step-eq : (q r : ℕ) (v w : Value) → step P (eq p (val q v) (val r w)) h s ≡ redex p h s (eqRedex h v w)
+  unfolding step under both
+  step-eq q r v w = refl
+
+  pub step-assign : (x q : ℕ) (v : Value) → step P (assign p x (val q v)) h s ≡ Out.next 0 p h (upd s x (some v)) (val p v)
+  unfolding step under
+  step-assign x q v = refl
+
+  pub step-get : (f d q : ℕ) (v : Value) → step P (get p f d (val q v)) h s ≡ redex p h s (getRedex P h f d v)
+  unfolding step under
+  step-get f d q v = refl
+
+  pub step-put : (f d q r : ℕ) (v w : Value) → step P (put p f d (val q v) (val r w)) h s ≡ redex p h s (putRedex P h f d v w)
+  unfolding step under both
+  step-put f d q r v w = refl
+
+  pub step-call-none : (m q : ℕ) (v : Value) → step P (call p m (val q v) nil) h s ≡ callOut P p h s m v []
+  unfolding step under unders
+  step-call-none m q v = refl
+
+  pub step-call : (m q : ℕ) (v : Value) (vs : List (ℕ × Value)) (r : ℕ) (w : Value)
+      → step P (call p m (val q v) (operandsOf vs (val r w) nil)) h s ≡ callOut P p h s m v (map (λ u. u .1) vs ++ (w ∷ []))
+  unfolding step under unders
+  step-call m q v vs r w = rw (operands-values P vs r w h s)
+
+  pub step-block : (x : ℕ) (t : Ty) (mv : Option Value) (q : ℕ) (v : Value) → step P (block p x t mv (val q v)) h s ≡ Out.next 0 p h s (val q v)
+  unfolding step blockOut
+  step-block x t mv q v = refl
+
+  pub step-seq : (q : ℕ) (v : Value) (b : Expr) → step P (seq p (val q v) b) h s ≡ Out.next 0 p h s b
+  unfolding step under
+  step-seq q v b = refl
+
+  pub step-if : (q : ℕ) (v : Value) (a b : Expr) → step P (ite p (val q v) a b) h s ≡ ifOut p h s v a b
+  unfolding step under
+  step-if q v a b = refl
+
+  pub step-throw : (t : Ty) (q : ℕ) (v : Value) → step P (throw p t (val q v)) h s ≡ throwOut p h s v
+  unfolding step under
+  step-throw t q v = refl
+
+  pub step-try : (c x q : ℕ) (v : Value) (b : Expr) → step P (try p c x (val q v) b) h s ≡ Out.next 0 p h s (val q v)
+  unfolding step tryOut
+  step-try c x q v b = refl
