@@ -9,7 +9,7 @@ use native.Mathlib.Omega.{arith}
 use native.Mathlib.Decide.{ℕ-discrete}
 use lib.Dec.{eqb, leb, ltb, eqb·suc-zero}
 use lib.ListN.{length, getD, set, take, drop, replicate, length-append, length-set, length-map, length-replicate, getD-replicate, List·getD-append, List·getD-eq-default}
-use lib.Seq.{getD-append-add, drop-at, take-append-add, drop-append-add, set-append-left, getD-set-same, getD-set-other, set-out, ext-getD}
+use lib.Seq.{length-take-le, drop-append-le, drop-drop, set-getD, sets, sets-eq, getD-append-add, drop-at, take-append-add, drop-append-add, set-append-left, getD-set-same, getD-set-other, set-out, ext-getD}
 use borrow.Author.Tests.{eqb-true, leb-true, ltb-true, ltb-false, lt-ltb, le-ltb}
 use Rattle.order.specs.declared.Found.{Found}
 use Rattle.order.specs.declared.Found.the-variants.{At, Nowhere}
@@ -115,6 +115,40 @@ words-set (r ∷ h) f (suc a) s l =
     let q : length xs + slotWords * a + slotWords ≡ length xs + (slotWords * a + slotWords) = omega arith in
     rw (p, q, take-append-add xs (wordsOf h) (slotWords * a), drop-append-add xs (wordsOf h) (slotWords * a + slotWords), append-assoc)
     (ap (xs ++_) (words-set h (fits-tail f) a s (omega arith)))
+
+-- (the words around slot a, and its own)
+pub words-split : (h : Heap) → Fits h → (a : ℕ) → a < length h
+    → wordsOf h ≡ take (slotWords * a) (wordsOf h) ++ (slotWordsOf (look h a) ++ drop (slotWords * a + slotWords) (wordsOf h))
+words-split h f a l = ap wordsOf (sym (set-getD h a free)) ∙ words-set h f a (look h a) l
+
+-- an object put where a slot is free: the class word and the fields' words are written, and the rest is 0 already;
+drop-zeros : (m n : ℕ) → drop {A = ℕ} m (replicate n 0) ≡ replicate (n - m) 0
+drop-zeros zero n = let e : n - 0 ≡ n = omega arith in rw e
+drop-zeros (suc m) zero = let e : 0 - suc m ≡ 0 = omega arith in rw e
+drop-zeros (suc m) (suc n) = let e : suc n - suc m ≡ n - m = omega arith in rw e (drop-zeros m n)
+
+drop-free : (h : Heap) → Fits h → (a m : ℕ) → a < length h → look h a ≡ free → m ≤ slotWords
+    → drop (slotWords * a + m) (wordsOf h) ≡ replicate (slotWords - m) 0 ++ drop (slotWords * a + slotWords) (wordsOf h)
+unfolding slotWordsOf
+drop-free h f a m l e k =
+    let ws = wordsOf h in
+    let q = drop (slotWords * a + slotWords) ws in
+    let t = take (slotWords * a) ws in
+    let n : length t ≡ slotWords * a = length-take-le (slotWords * a) ws (rw (length-words h f) (omega arith)) in
+    let p : ws ≡ t ++ (replicate slotWords 0 ++ q) = words-split h f a l ∙ rw e in
+    sym (drop-drop m (slotWords * a) ws)
+    ∙ ap (drop m) (ap (drop (slotWords * a)) p ∙ drop-at t (replicate slotWords 0 ++ q) (slotWords * a) n)
+    ∙ drop-append-le m (replicate slotWords 0) q (rw length-replicate k)
+    ∙ ap (_++ q) (drop-zeros m slotWords)
+
+pub words-new : (h : Heap) → Fits h → (a c : ℕ) (vs : List Value) → a < length h → look h a ≡ free → length vs ≤ mostFieldsAbove
+    → wordsOf (set h a (obj c vs)) ≡ sets (wordsOf h) (slotWords * a) (suc c ∷ map wordOf vs)
+unfolding slotWordsOf
+words-new h f a c vs l e k =
+    let n : length (map wordOf vs) ≡ length vs = length-map vs wordOf in
+    words-set h f a (obj c vs) l
+    ∙ rw (n, drop-free h f a (suc (length vs)) l e (omega arith)) (simp append-assoc)
+    ∙ sym (sets-eq (suc c ∷ map wordOf vs) (wordsOf h) (slotWords * a) (rw (length-words h f) (omega arith)))
 
 -- and a field written: its word is.
 slot-set : (c : ℕ) (vs : List Value) (i : ℕ) (w : Value) → i < length vs → slotWordsOf (obj c (set vs i w)) ≡ set (slotWordsOf (obj c vs)) (suc i) (wordOf w)

@@ -3,3 +3,4 @@ pub mod Maps
 pub mod Trees
 pub mod Classes
 pub mod Heap
+pub mod Frames
