@@ -1,0 +1,3 @@
+-- The report's figures 1 and 2, rule by rule.
+pub mod Figure1
+pub mod Figure2
