@@ -3,3 +3,4 @@ pub mod Figure1
 pub mod Figure2
 -- Laws, which a reader need not believe: the checker does.
 pub mod Agreement
+pub mod FirstBreach
