@@ -147,7 +147,7 @@ module _ (P : Program) where
         rw (typed k, q, need-true (not (eqb x 0) && subtype P u t) p u (and-of _ _ (eq-not x n) s))
     typed (FAcc {p = p} {d = d} k s) =
         rw (typed k, s .seen, need-true (eqb (s .field .owner) d) p (s .field .type) (rw (s .owner) (eqb-same d))) (ap ok (s .type))
-    typed (FAss {p = p} {d = d} {u = u} k s l i) =
+    typed (FAss {p = p} {d = d} {v = u} k s l i) =
         rw (typed k, typed l, s .seen)
         (need-true
         (eqb (s .field .owner) d && subtype P u (s .field .type))

@@ -71,13 +71,13 @@ module _ (P : Program) where
           → (x ≡ 0 → ⊥)
           → Typed (assign p x e) Γ u
       FAcc : {p f d c : ℕ} {e : Expr} {Γ : Env} {t : Ty} → Typed e Γ (Class c) → SeesField c f t d → Typed (get p f d e) Γ t
-      -- the type is the value's
-      FAss : {p f d c : ℕ} {a b : Expr} {Γ : Env} {t u : Ty}
+      -- the type is the value's, v
+      FAss : {p f d c : ℕ} {a b : Expr} {Γ : Env} {t v : Ty}
           → Typed a Γ (Class c)
           → SeesField c f t d
-          → Typed b Γ u
-          → Subtype u t
-          → Typed (put p f d a b) Γ u
+          → Typed b Γ v
+          → Subtype v t
+          → Typed (put p f d a b) Γ v
       -- the innermost variable of a number holds
       Block : {p x : ℕ} {e : Expr} {Γ : Env} {t u : Ty} → Typed e (upd Γ x (some t)) u → Typed (block p x t none e) Γ u
       Call : {p m c : ℕ} {e : Expr} {es : Exprs} {Γ : Env} {ts us : List Ty} {t : Ty}
