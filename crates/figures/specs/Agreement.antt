@@ -1,6 +1,6 @@
 -- Laws: the checks of `rules` find a type, or a set, exactly where figure 1, or figure 2, gives it.
 use Prim.Native.Nat.{ℕ, zero, suc, _<_}
-use mathlib.Core.Path.{_≡_, refl, sym, _∙_, ap, fun-ext}
+use mathlib.Core.Path.{_≡_, refl, sym, _∙_, ap, ap₂, subst, fun-ext}
 use mathlib.Core.Logic.{_⊎_, inl, inr, ⊎-elim}
 use mathlib.Core.Bool.{Bool, true, false, not, cond, _&&_, _||_}
 use mathlib.Core.Option.{Option, none, some}
@@ -532,5 +532,47 @@ mutual
       (k .0, setting-sets e (r .0) I (k .0) (k .1), settings-sets es (r .1) (k .0) K (k .2))
 
 -- there is at most one set after a tree
-pub one-set : (e : Expr) → InRange e → (I J K : Vars) → Sets I e J → Sets I e K → J ≡ K
-one-set e r I J K s t = ok-inj (sym (sets e r I J s) ∙ sets e r I K t)
+mutual
+  unfolding Sets
+
+  pub one-set : (e : Expr) (I J K : Vars) → Sets I e J → Sets I e K → J ≡ K
+  one-set (new p c) I J K s t = s ∙ sym t
+  one-set (cast p c e) I J K s t = one-set e I J K s t
+  one-set (val p v) I J K s t = s ∙ sym t
+  one-set (var p x) I J K s t = s .1 ∙ sym (t .1)
+  one-set (add p a b) I J K s t =
+      one-set b (t .0) J K (subst (λ M. Sets M b J) (one-set a I (s .0) (t .0) (s .1) (t .1)) (s .2)) (t .2)
+  one-set (eq p a b) I J K s t =
+      one-set b (t .0) J K (subst (λ M. Sets M b J) (one-set a I (s .0) (t .0) (s .1) (t .1)) (s .2)) (t .2)
+  one-set (assign p x e) I J K s t = s .2 ∙ ap (λ M. with M x) (one-set e I (s .0) (t .0) (s .1) (t .1)) ∙ sym (t .2)
+  one-set (get p f d e) I J K s t = one-set e I J K s t
+  one-set (put p f d a b) I J K s t =
+      one-set b (t .0) J K (subst (λ M. Sets M b J) (one-set a I (s .0) (t .0) (s .1) (t .1)) (s .2)) (t .2)
+  one-set (call p m e es) I J K s t =
+      one-set-all es (t .0) J K (subst (λ M. SetsAll M es J) (one-set e I (s .0) (t .0) (s .1) (t .1)) (s .2)) (t .2)
+  one-set (block p x u mv e) I J K s t =
+      s .2
+      ∙ ap (λ M. cond (I x) (with M x) (without M x)) (one-set e (without I x) (s .0) (t .0) (s .1) (t .1))
+      ∙ sym (t .2)
+  one-set (seq p a b) I J K s t =
+      one-set b (t .0) J K (subst (λ M. Sets M b J) (one-set a I (s .0) (t .0) (s .1) (t .1)) (s .2)) (t .2)
+  one-set (ite p c a b) I J K s t =
+      let q = one-set c I (s .0) (t .0) (s .3) (t .3) in
+      s .6
+      ∙ ap₂ meet
+      (one-set a (t .0) (s .1) (t .1) (subst (λ M. Sets M a (s .1)) q (s .4)) (t .4))
+      (one-set b (t .0) (s .2) (t .2) (subst (λ M. Sets M b (s .2)) q (s .5)) (t .5))
+      ∙ sym (t .6)
+  one-set (while p c e) I J K s t = one-set c I J K (s .0) (t .0)
+  one-set (throw p u e) I J K s t = s .0 ∙ sym (t .0)
+  one-set (try p c x a b) I J K s t =
+      s .4
+      ∙ ap₂ (λ A B. meet A (cond (I x) B (without B x)))
+      (one-set a I (s .0) (t .0) (s .2) (t .2))
+      (one-set b (with I x) (s .1) (t .1) (s .3) (t .3))
+      ∙ sym (t .4)
+
+  one-set-all : (es : Exprs) (I J K : Vars) → SetsAll I es J → SetsAll I es K → J ≡ K
+  one-set-all nil I J K s t = s ∙ sym t
+  one-set-all (cons e es) I J K s t =
+      one-set-all es (t .0) J K (subst (λ M. SetsAll M es J) (one-set e I (s .0) (t .0) (s .1) (t .1)) (s .2)) (t .2)
