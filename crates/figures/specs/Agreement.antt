@@ -74,22 +74,22 @@ literal-some p (Intg n) t e = ap ok (cc)
 literal-some p (Addr a) t e = absurd (let z : _≡_ {A = ℕ} 0 1 = cc in omega arith)
 
 -- Tests.
-never : false ≡ true → ⊥
+pub never : false ≡ true → ⊥
 never e = let z : _≡_ {A = ℕ} 0 1 = cc in omega arith
 
 T→ : (b : Bool) → T b → b ≡ true
 T→ true t = refl
 T→ false t = absurd t
 
-→T : (b : Bool) → b ≡ true → T b
+pub →T : (b : Bool) → b ≡ true → T b
 →T true e = tt
 →T false e = absurd (never e)
 
-and-l : (a b : Bool) → (a && b) ≡ true → a ≡ true
+pub and-l : (a b : Bool) → (a && b) ≡ true → a ≡ true
 and-l true b e = refl
 and-l false b e = e
 
-and-r : (a b : Bool) → (a && b) ≡ true → b ≡ true
+pub and-r : (a b : Bool) → (a && b) ≡ true → b ≡ true
 and-r true b e = e
 and-r false b e = absurd (never e)
 
@@ -108,7 +108,7 @@ or-of : (a b : Bool) → (a ≡ true) ⊎ (b ≡ true) → (a || b) ≡ true
 or-of true b e = refl
 or-of false b e = ⊎-elim (λ z. absurd (never z)) (λ z. z) e
 
-eqb-eq : (m n : ℕ) → eqb m n ≡ true → m ≡ n
+pub eqb-eq : (m n : ℕ) → eqb m n ≡ true → m ≡ n
 eqb-eq m n e = eqb→eq m n (→T (eqb m n) e)
 
 eqb-same : (n : ℕ) → eqb n n ≡ true

@@ -4,3 +4,4 @@ pub mod Figure2
 -- Laws, which a reader need not believe: the checker does.
 pub mod Agreement
 pub mod FirstBreach
+pub mod Laid
