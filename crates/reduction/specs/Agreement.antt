@@ -136,6 +136,57 @@ throws-final Now First = AnException
 throws-final (Later r) First = AValue
 throws-final (Later r) (After f) = throws-final r f
 
+-- An expression that has an active place is not final, and has no other.
+exception-turn : {p q a : ℕ} {t : Ty} {s : Expr} → Turn (throw p t (val q (Addr a))) s → Final s
+exception-turn OfThrow = AValue
+
+pub unfinished : {e : Expr} {d q : ℕ} → Active e d q → ¬ Final e
+unfinished (Here n f p) g = n g
+unfinished (Below t a) AValue = elim t [ ]
+unfinished (Below t a) AnException = unfinished a (exception-turn t)
+
+same-first : {es : Exprs} {s s' : Expr} → FirstOf es s → FirstOf es s' → ¬ Final s → ¬ Final s' → s ≡ s'
+same-first First First n n' = refl
+same-first First (After g) n n' = absurd (n AValue)
+same-first (After f) First n n' = absurd (n' AValue)
+same-first (After f) (After g) n n' = same-first f g n n'
+
+same-turn : {e s s' : Expr} → Turn e s → Turn e s' → ¬ Final s → ¬ Final s' → s ≡ s'
+same-turn OfCast OfCast n n' = refl
+same-turn OfAdd OfAdd n n' = refl
+same-turn OfAdd OfAddSecond n n' = absurd (n AValue)
+same-turn OfAddSecond OfAdd n n' = absurd (n' AValue)
+same-turn OfAddSecond OfAddSecond n n' = refl
+same-turn OfEq OfEq n n' = refl
+same-turn OfEq OfEqSecond n n' = absurd (n AValue)
+same-turn OfEqSecond OfEq n n' = absurd (n' AValue)
+same-turn OfEqSecond OfEqSecond n n' = refl
+same-turn OfAssign OfAssign n n' = refl
+same-turn OfGet OfGet n n' = refl
+same-turn OfSet OfSet n n' = refl
+same-turn OfSet OfSetSecond n n' = absurd (n AValue)
+same-turn OfSetSecond OfSet n n' = absurd (n' AValue)
+same-turn OfSetSecond OfSetSecond n n' = refl
+same-turn OfCall OfCall n n' = refl
+same-turn OfCall (OfCallArguments g) n n' = absurd (n AValue)
+same-turn (OfCallArguments f) OfCall n n' = absurd (n' AValue)
+same-turn (OfCallArguments f) (OfCallArguments g) n n' = same-first f g n n'
+same-turn OfBlock OfBlock n n' = refl
+same-turn OfSeq OfSeq n n' = refl
+same-turn OfIf OfIf n n' = refl
+same-turn OfThrow OfThrow n n' = refl
+same-turn OfTry OfTry n n' = refl
+
+pub one-place : {e : Expr} {d d' q q' : ℕ} → Active e d q → Active e d' q' → (d ≡ d') × (q ≡ q')
+one-place (Here n f p) (Here n' f' p') = (refl, cc)
+one-place (Here n f p) (Below {s = s} t a) = absurd (unfinished a (f s t))
+one-place (Below {s = s} t a) (Here n f p) = absurd (unfinished a (f s t))
+one-place (Below {s = s} t a) (Below {s = s'} {d = d'} {p = q'} t' a') =
+    let e : s ≡ s' = same-turn t t' (unfinished a) (unfinished a') in
+    let b : Active s d' q' = rw (← e) at a' in
+    let i = one-place a b in
+    (ap suc (i .0), i .1)
+
 module _ (P : Program) where
   -- From the relation to the function.
   unfoldable pub Does : Out → Expr → Heap → Store → Type 0
@@ -711,3 +762,36 @@ module _ (P : Program) where
     tells-all nil h l = NoValue
     tells-all (cons e es) h l =
         cons-tells h l (step P e h l) e es _ (tells e h l) (λ q v. tail-tells h l q v (steps P es h l) es (tells-all es h l))
+
+  -- In words. What `step` finds is right.
+  pub told-value : (e : Expr) (h : Heap) (l : Store) {q : ℕ} {v : Value} → step P e h l ≡ value q v → e ≡ val q v
+  told-value e h l s = rw s at (tells e h l)
+
+  pub told-thrown : (e : Expr) (h : Heap) (l : Store) {a : ℕ} → step P e h l ≡ Out.thrown a → Exception e a
+  told-thrown e h l s = rw s at (tells e h l)
+
+  pub told-next : (e : Expr) (h : Heap) (l : Store) {d q : ℕ} {h' : Heap} {l' : Store} {e' : Expr} → step P e h l ≡ Out.next d q h' l' e'
+      → Reduces P e h l e' h' l' × Active e d q
+  told-next e h l s = let n : Next e h l _ _ _ _ _ = rw s at (tells e h l) in (n .rule, n .active)
+
+  pub told-stuck : (e : Expr) (h : Heap) (l : Store) {d q : ℕ} → step P e h l ≡ Out.stuck d q
+      → ((e' : Expr) (h' : Heap) (l' : Store) → ¬ Reduces P e h l e' h' l') × (¬ Final e) × Active e d q
+  unfolding Does
+  told-stuck e h l {d} {q} s =
+      let a : Active e d q = rw s at (tells e h l) in
+      (λ e' h' l' r. unlike (does r), λ f. unfinished a f, a)
+    where
+      unlike : {e' : Expr} {h' : Heap} {l' : Store} → Does (step P e h l) e' h' l' → ⊥
+      unlike i = let t = i .2 in let z : _≡_ {A = ℕ} 0 1 = cc in absurd (omega arith)
+
+  -- At most one rule fits.
+  pub one-step : {e e₁ e₂ : Expr} {h h₁ h₂ : Heap} {l l₁ l₂ : Store} → Reduces P e h l e₁ h₁ l₁ → Reduces P e h l e₂ h₂ l₂
+      → (e₁ ≡ e₂) × (h₁ ≡ h₂) × (l₁ ≡ l₂)
+  unfolding Does
+  one-step r s = let i = does r .2 in let j = does s .2 in (cc, cc, cc)
+
+  -- A final expression does not reduce.
+  pub final-rests : {e e' : Expr} {h h' : Heap} {l l' : Store} → Final e → ¬ Reduces P e h l e' h' l'
+  unfolding Does step under throwOut
+  final-rests AValue r = let i = does r .2 in let z : _≡_ {A = ℕ} 0 1 = cc in absurd (omega arith)
+  final-rests AnException r = let i = does r .2 in let z : _≡_ {A = ℕ} 0 1 = cc in absurd (omega arith)
