@@ -76,6 +76,10 @@ blocked-set : (p x : ℕ) (t : Ty) (v : Value) (e : Expr) → blocked p x t (som
 unfolding blocked
 blocked-set p x t v e = refl
 
+-- Throw of an address, and this address
+pub data Exception : Expr → ℕ → Type 0 where
+  Thrown : {p q a : ℕ} {t : Ty} → Exception (throw p t (val q (Addr a))) a
+
 -- The active place is here: the operands in turn are final. With two operands, the second has its turn after a value.
 data Then (B : Type 0) : Expr → Type 0 where
   Stopped : {p q a : ℕ} {t : Ty} → Then B (throw p t (val q (Addr a)))
@@ -290,9 +294,6 @@ module _ (P : Program) where
   -- a step that leaves the store
   at : {e e' : Expr} {h h' : Heap} {l : Store} {d q : ℕ} → Reduces P e h l e' h' l → Active e d q → Next e h l d q h' l e'
   at r a = record { rule = r; active = a; keeps = λ x s. s }
-
-  pub data Exception : Expr → ℕ → Type 0 where
-    Thrown : {p q a : ℕ} {t : Ty} → Exception (throw p t (val q (Addr a))) a
 
   abbrev pub Tells : Out → Expr → Heap → Store → Type 0
   Tells (value r v) e h l = e ≡ val r v

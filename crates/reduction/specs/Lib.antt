@@ -2,3 +2,5 @@
 pub mod AppendixB
 pub mod ActivePlace
 pub mod Agreement
+pub mod Runs
+pub mod RunLaws
