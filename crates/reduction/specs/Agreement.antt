@@ -597,8 +597,8 @@ module _ (P : Program) where
         count : (c : ℕ) (fs : List Value) (k : Method) (b : Bool) → look h a ≡ obj c fs → seesMethod P c m ≡ some k
             → eqb (length vs) (length (k .params)) ≡ b
             → Tells
-              (cond b (to p h l (blocks p 0 (Class (k .owner) ∷ k .params) (Addr a ∷ vs) (load (k .body)))) (Out.stuck 0 p))
-              (call p m (val q (Addr a)) es) h l
+            (cond b (to p h l (blocks p 0 (Class (k .owner) ∷ k .params) (Addr a ∷ vs) (load (k .body)))) (Out.stuck 0 p))
+            (call p m (val q (Addr a)) es) h l
         count c fs k true o s e = at (Call r o s (eqb-sound (length vs) (length (k .params)) e) refl) n
         count c fs k false o s e = n
 
@@ -732,11 +732,11 @@ module _ (P : Program) where
     tells (assign p x e) h l =
         under-tells h l p (step P e h l) (assign p x) _ e (around-assign h l p x) (tells e h l)
         (λ q v.
-           record {
-             rule = Assign refl;
-             active = here (assign p x (val q v)) (λ g. elim g [ ]) AValue;
-             keeps = assign-keeps h l x v;
-           })
+        record {
+          rule = Assign refl;
+          active = here (assign p x (val q v)) (λ g. elim g [ ]) AValue;
+          keeps = assign-keeps h l x v;
+        })
     tells (get p f d e) h l =
         under-tells h l p (step P e h l) (get p f d) _ e (around-get h l p f d) (tells e h l)
         (λ q v. redex-tells h l p (getRedex P h f d v) (here (get p f d (val q v)) (λ g. elim g [ ]) AValue) (get-sound h l p f d q v))

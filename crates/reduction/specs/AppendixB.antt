@@ -44,7 +44,6 @@ module _ (P : Program) where
       NewNoMemory : {p c : ℕ} {h : Heap} {l : Store}
           → lowestFree h ≡ none
           → Reduces (new p c) h l (thrown-at p outOfMemory) h l
-
       -- Cast. The paper: the address of ClassCast is 1. An exception moves, here and below, only once it is Throw of an address.
       CastStep : {p c : ℕ} {e e' : Expr} {h h' : Heap} {l l' : Store}
           → Reduces e h l e' h' l'
@@ -58,9 +57,7 @@ module _ (P : Program) where
           → look h a ≡ obj d vs
           → subclass P d c ≡ false
           → Reduces (cast p c (val q (Addr a))) h l (thrown-at p classCast) h l
-      CastThrow : {p c q r a : ℕ} {t : Ty} {h : Heap} {l : Store}
-          → Reduces (cast p c (throw q t (val r (Addr a)))) h l (thrown-at p a) h l
-
+      CastThrow : {p c q r a : ℕ} {t : Ty} {h : Heap} {l : Store} → Reduces (cast p c (throw q t (val r (Addr a)))) h l (thrown-at p a) h l
       -- Binary operation, first Add. The paper: it is modulo 2^32 and needs two Integers.
       AddFirst : {p : ℕ} {a a' b : Expr} {h h' : Heap} {l l' : Store}
           → Reduces a h l a' h' l'
@@ -75,7 +72,6 @@ module _ (P : Program) where
           → Reduces (add p (throw q t (val r (Addr a))) b) h l (thrown-at p a) h l
       AddSecondThrow : {p s q r a : ℕ} {v : Value} {t : Ty} {h : Heap} {l : Store}
           → Reduces (add p (val s v) (throw q t (val r (Addr a)))) h l (thrown-at p a) h l
-
       -- then Eq. The paper: it is true when both values are the same, over all values.
       EqFirst : {p : ℕ} {a a' b : Expr} {h h' : Heap} {l l' : Store}
           → Reduces a h l a' h' l'
@@ -93,10 +89,8 @@ module _ (P : Program) where
           → Reduces (eq p (throw q t (val r (Addr a))) b) h l (thrown-at p a) h l
       EqSecondThrow : {p s q r a : ℕ} {v : Value} {t : Ty} {h : Heap} {l : Store}
           → Reduces (eq p (val s v) (throw q t (val r (Addr a)))) h l (thrown-at p a) h l
-
       -- Variable access.
       Var : {p x : ℕ} {v : Value} {h : Heap} {l : Store} → l x ≡ some v → Reduces (var p x) h l (val p v) h l
-
       -- Variable assignment.
       AssignStep : {p x : ℕ} {e e' : Expr} {h h' : Heap} {l l' : Store}
           → Reduces e h l e' h' l'
@@ -106,7 +100,6 @@ module _ (P : Program) where
           → Reduces (assign p x (val q v)) h l (val p v) h l'
       AssignThrow : {p x q r a : ℕ} {t : Ty} {h : Heap} {l : Store}
           → Reduces (assign p x (throw q t (val r (Addr a)))) h l (thrown-at p a) h l
-
       -- Field access. The paper: an object having that field of that class; the address of NullPointer is 0.
       GetStep : {p f d : ℕ} {e e' : Expr} {h h' : Heap} {l l' : Store}
           → Reduces e h l e' h' l'
@@ -116,11 +109,9 @@ module _ (P : Program) where
           → fieldIndex (hasFields P c) d f ≡ some i
           → getD vs i Value.Unit ≡ v
           → Reduces (get p f d (val q (Addr a))) h l (val p v) h l
-      GetNull : {p f d q : ℕ} {h : Heap} {l : Store}
-          → Reduces (get p f d (val q Null)) h l (thrown-at p nullPointer) h l
+      GetNull : {p f d q : ℕ} {h : Heap} {l : Store} → Reduces (get p f d (val q Null)) h l (thrown-at p nullPointer) h l
       GetThrow : {p f d q r a : ℕ} {t : Ty} {h : Heap} {l : Store}
           → Reduces (get p f d (throw q t (val r (Addr a)))) h l (thrown-at p a) h l
-
       -- Field assignment. The paper: an object having that field of that class; a set never adds one.
       SetFirst : {p f d : ℕ} {a a' b : Expr} {h h' : Heap} {l l' : Store}
           → Reduces a h l a' h' l'
@@ -128,18 +119,16 @@ module _ (P : Program) where
       SetSecond : {p f d q : ℕ} {v : Value} {b b' : Expr} {h h' : Heap} {l l' : Store}
           → Reduces b h l b' h' l'
           → Reduces (put p f d (val q v) b) h l (put p f d (val q v) b') h' l'
-      Set : {p f d q r a c i : ℕ} {vs : List Value} {v : Value} {h h' : Heap} {l : Store}
+      Set : {p f d q r a c j : ℕ} {vs : List Value} {v : Value} {h h' : Heap} {l : Store}
           → look h a ≡ obj c vs
-          → fieldIndex (hasFields P c) d f ≡ some i
-          → set h a (obj c (set vs i v)) ≡ h'
+          → fieldIndex (hasFields P c) d f ≡ some j
+          → set h a (obj c (set vs j v)) ≡ h'
           → Reduces (put p f d (val q (Addr a)) (val r v)) h l (val p v) h' l
-      SetNull : {p f d q r : ℕ} {v : Value} {h : Heap} {l : Store}
-          → Reduces (put p f d (val q Null) (val r v)) h l (thrown-at p nullPointer) h l
+      SetNull : {p f d q r : ℕ} {v : Value} {h : Heap} {l : Store} → Reduces (put p f d (val q Null) (val r v)) h l (thrown-at p nullPointer) h l
       SetFirstThrow : {p f d q r a : ℕ} {t : Ty} {b : Expr} {h : Heap} {l : Store}
           → Reduces (put p f d (throw q t (val r (Addr a))) b) h l (thrown-at p a) h l
       SetSecondThrow : {p f d s q r a : ℕ} {v : Value} {t : Ty} {h : Heap} {l : Store}
           → Reduces (put p f d (val s v) (throw q t (val r (Addr a)))) h l (thrown-at p a) h l
-
       -- Method call. The blocks that it makes remember `this` and the arguments.
       CallStep : {p m : ℕ} {e e' : Expr} {es : Exprs} {h h' : Heap} {l l' : Store}
           → Reduces e h l e' h' l'
@@ -162,7 +151,6 @@ module _ (P : Program) where
       CallArgumentThrow : {p m q a : ℕ} {v : Value} {es : Exprs} {h : Heap} {l : Store}
           → Throws es a
           → Reduces (call p m (val q v) es) h l (thrown-at p a) h l
-
       -- Block. Inside, the store has x as the block remembers it; afterwards x is given back.
       -- The paper: a block remembers v as soon as its body is `x := v; e` (`blocked`); `block p x t (some v) e` stands for that.
       BlockStep : {p x : ℕ} {t : Ty} {e e₁ e' : Expr} {h h' : Heap} {l l₀ l₁ l' : Store}
@@ -192,7 +180,6 @@ module _ (P : Program) where
           → Reduces (block p x t none (throw q u (val r (Addr a)))) h l (thrown-at p a) h l
       BlockRememberingThrow : {p x q r a : ℕ} {t u : Ty} {v : Value} {h : Heap} {l : Store}
           → Reduces (block p x t (some v) (throw q u (val r (Addr a)))) h l (thrown-at p a) h l
-
       -- Sequential composition.
       SeqStep : {p : ℕ} {a a' b : Expr} {h h' : Heap} {l l' : Store}
           → Reduces a h l a' h' l'
@@ -200,7 +187,6 @@ module _ (P : Program) where
       Seq : {p q : ℕ} {v : Value} {b : Expr} {h : Heap} {l : Store} → Reduces (seq p (val q v) b) h l b h l
       SeqThrow : {p q r a : ℕ} {t : Ty} {b : Expr} {h : Heap} {l : Store}
           → Reduces (seq p (throw q t (val r (Addr a))) b) h l (thrown-at p a) h l
-
       -- Conditional.
       IfStep : {p : ℕ} {c c' a b : Expr} {h h' : Heap} {l l' : Store}
           → Reduces c h l c' h' l'
@@ -211,11 +197,9 @@ module _ (P : Program) where
           → Reduces (ite p (val q (Value.Bool false)) a b) h l b h l
       IfThrow : {p q r n : ℕ} {t : Ty} {a b : Expr} {h : Heap} {l : Store}
           → Reduces (ite p (throw q t (val r (Addr n))) a b) h l (thrown-at p n) h l
-
       -- While loop. The paper: the If and the Seq have the While's place.
       While : {p : ℕ} {c e : Expr} {h : Heap} {l : Store}
           → Reduces (while p c e) h l (ite p c (seq p e (while p c e)) (val p Value.Unit)) h l
-
       -- Throw.
       ThrowStep : {p : ℕ} {t : Ty} {e e' : Expr} {h h' : Heap} {l l' : Store}
           → Reduces e h l e' h' l'
@@ -224,7 +208,6 @@ module _ (P : Program) where
           → Reduces (throw p t (val q Null)) h l (thrown-at p nullPointer) h l
       ThrowThrow : {p q r a : ℕ} {t u : Ty} {h : Heap} {l : Store}
           → Reduces (throw p t (throw q u (val r (Addr a)))) h l (thrown-at p a) h l
-
       -- Try-Catch.
       TryStep : {p c x : ℕ} {a a' b : Expr} {h h' : Heap} {l l' : Store}
           → Reduces a h l a' h' l'

@@ -110,28 +110,39 @@ module _ (P : Program) where
           ends = a;
         }
 
-    module _ {k : ℕ} {e e₁ : Expr} {h h₁ : Heap} {l l₁ : Store} {w : Ended} (g : GoesOn P limit depth k e h l) (r : Reduces P e h l e₁ h₁ l₁) (f : From (suc k) e₁ h₁ l₁ w) where
-      later-before : {i : ℕ} {e' : Expr} {h' : Heap} {l' : Store} → Reduction P i e h l e' h' l' → i < suc (f .more) → GoesOn P limit depth (k + i) e' h' l'
-      later-before Rest lt = let z : k + 0 ≡ k = omega arith in rw z g
-      later-before {e' = e'} {h' = h'} {l' = l'} (Step {k = i} s m) lt =
-          let q = one-step P s r in
-          let n : Reduction P i e₁ h₁ l₁ e' h' l' = rw (q .0, q .1, q .2) at m in
-          let z : k + suc i ≡ suc k + i = omega arith in
-          rw z (f .before n (omega arith))
+    -- one step, and then the run from there
+    module _
+        {k : ℕ}
+        {e e₁ : Expr}
+        {h h₁ : Heap}
+        {l l₁ : Store}
+        {w : Ended}
+        (g : GoesOn P limit depth k e h l)
+        (r : Reduces P e h l e₁ h₁ l₁)
+        (f : From (suc k) e₁ h₁ l₁ w)
+      where
+        later-before : {i : ℕ} {e' : Expr} {h' : Heap} {l' : Store} → Reduction P i e h l e' h' l' → i < suc (f .more)
+            → GoesOn P limit depth (k + i) e' h' l'
+        later-before Rest lt = let z : k + 0 ≡ k = omega arith in rw z g
+        later-before {e' = e'} {h' = h'} {l' = l'} (Step {k = i} s m) lt =
+            let q = one-step P s r in
+            let n : Reduction P i e₁ h₁ l₁ e' h' l' = rw (q .0, q .1, q .2) at m in
+            let z : k + suc i ≡ suc k + i = omega arith in
+            rw z (f .before n (omega arith))
 
-      later : From k e h l w
-      later =
-          let c = f .counted in
-          record {
-            more = suc (f .more);
-            counted = omega arith;
-            within = f .within;
-            last = f .last;
-            store = f .store;
-            path = Step r (f .path);
-            before = λ m lt. later-before m lt;
-            ends = f .ends;
-          }
+        later : From k e h l w
+        later =
+            let c = f .counted in
+            record {
+              more = suc (f .more);
+              counted = omega arith;
+              within = f .within;
+              last = f .last;
+              store = f .store;
+              path = Step r (f .path);
+              before = λ m lt. later-before m lt;
+              ends = f .ends;
+            }
 
     exception-ends : {k a : ℕ} {e : Expr} {h : Heap} {l : Store} → Exception e a → EndsAt P limit depth k e h l (Threw a)
     exception-ends Thrown = IsException
@@ -152,7 +163,9 @@ module _ (P : Program) where
       where
         test : (z : Bool) → leb d depth ≡ z
             → From k e h l (cond z (record { end = Stuck q; count = k; heap = h }) (record { end = TooDeep; count = k; heap = h }))
-        test true t = now (Stuck q) b (NoRule (told-stuck P e h l s .2) (leb→le d depth (rw t tt)) (λ f. told-stuck P e h l s .0 (f .0) (f .1) (f .2) (f .3)))
+        test true t =
+            let k = told-stuck P e h l s in
+            now (Stuck q) b (NoRule (k .2) (leb→le d depth (rw t tt)) (λ f. k .0 (f .0) (f .1) (f .2) (f .3)))
         test false t = now TooDeep b (IsDeep (told-stuck P e h l s .2) (nleb→lt d depth (rw t tt)))
 
     runs : (n k : ℕ) → k + n ≡ limit → (e : Expr) (h : Heap) (l : Store) → From k e h l (run depth P n k h l e)
@@ -176,8 +189,8 @@ module _ (P : Program) where
           path = rw q at (f .path);
           before =
               λ {k = i} m lt.
-                let z : 0 + i ≡ i = omega arith in
-                rw z at (f .before m (omega arith));
+              let z : 0 + i ≡ i = omega arith in
+              rw z at (f .before m (omega arith));
           ends = f .ends;
         }
 

@@ -33,26 +33,12 @@ module _ (P : Program) where
       IsValue : {k p : ℕ} {v : Value} {h : Heap} {l : Store} → EndsAt k (val p v) h l (Returned v)
       IsException : {k p q a : ℕ} {t : Ty} {h : Heap} {l : Store} → EndsAt k (throw p t (val q (Addr a))) h l (Threw a)
       IsDeep : {k d q : ℕ} {e : Expr} {h : Heap} {l : Store} → Active e d q → depth < d → EndsAt k e h l TooDeep
-      NoRule : {k d q : ℕ} {e : Expr} {h : Heap} {l : Store}
-          → Active e d q
-          → d ≤ depth
-          → ¬ Fits e h l
-          → EndsAt k e h l (Stuck q)
-      AtLimit : {k d q : ℕ} {e : Expr} {h : Heap} {l : Store}
-          → Active e d q
-          → d ≤ depth
-          → Fits e h l
-          → limit ≤ k
-          → EndsAt k e h l OutOfSteps
+      NoRule : {k d q : ℕ} {e : Expr} {h : Heap} {l : Store} → Active e d q → d ≤ depth → ¬ Fits e h l → EndsAt k e h l (Stuck q)
+      AtLimit : {k d q : ℕ} {e : Expr} {h : Heap} {l : Store} → Active e d q → d ≤ depth → Fits e h l → limit ≤ k → EndsAt k e h l OutOfSteps
 
     -- none of the tests applies
     pub data GoesOn : (k : ℕ) → Expr → Heap → Store → Type 0 where
-      NoTest : {k d q : ℕ} {e : Expr} {h : Heap} {l : Store}
-          → Active e d q
-          → d ≤ depth
-          → Fits e h l
-          → k < limit
-          → GoesOn k e h l
+      NoTest : {k d q : ℕ} {e : Expr} {h : Heap} {l : Store} → Active e d q → d ≤ depth → Fits e h l → k < limit → GoesOn k e h l
 
     -- `RunsTo e h l w`: from e, h, l the run takes `count` steps; none of the tests applies before that, and there one ends it.
     pub record RunsTo (e : Expr) (h : Heap) (l : Store) (w : Ended) : Type 0 where
