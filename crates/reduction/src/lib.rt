@@ -1,0 +1,1 @@
+// Theorems about the steps of the language; there is no code here.
