@@ -18,53 +18,11 @@ use Rattle.rules.specs.Program.{Program, Env}
 use Rattle.rules.specs.Classes.{orElse, subtype, seesField, seesMethod}
 use Rattle.rules.specs.Typing.{Res, ok, bad, _>>=_, need, found, literal, class, unremembered, typing, typings}
 use Rattle.rules.specs.Setting.{Vars, everyVar, meet, setting, settings}
+use Rattle.rules.specs.Trees.{place, places, placesAll}
 use Rattle.rules.specs.Sites.{Site, sites, sitesAll, typedWithin, siteTyped, after, afterAll, reads, readsAll}
 use Rattle.figures.specs.Agreement.{clash, ok-inj}
 
 -- WHAT IS SAID
--- the place of a tree's own node
-unfoldable pub place : Expr → ℕ
-place (new p c) = p
-place (cast p c e) = p
-place (val p v) = p
-place (var p x) = p
-place (add p a b) = p
-place (eq p a b) = p
-place (assign p x e) = p
-place (get p f d e) = p
-place (put p f d a b) = p
-place (call p m e es) = p
-place (block p x t mv e) = p
-place (seq p a b) = p
-place (ite p c a b) = p
-place (while p c e) = p
-place (throw p t e) = p
-place (try p c x a b) = p
-
--- the places of all its nodes, operands before their node
-unfoldable mutual
-  pub places : Expr → List ℕ
-  places (new p c) = p ∷ []
-  places (cast p c e) = places e ++ (p ∷ [])
-  places (val p v) = p ∷ []
-  places (var p x) = p ∷ []
-  places (add p a b) = places a ++ (places b ++ (p ∷ []))
-  places (eq p a b) = places a ++ (places b ++ (p ∷ []))
-  places (assign p x e) = places e ++ (p ∷ [])
-  places (get p f d e) = places e ++ (p ∷ [])
-  places (put p f d a b) = places a ++ (places b ++ (p ∷ []))
-  places (call p m e es) = places e ++ (placesAll es ++ (p ∷ []))
-  places (block p x t mv e) = places e ++ (p ∷ [])
-  places (seq p a b) = places a ++ (places b ++ (p ∷ []))
-  places (ite p c a b) = places c ++ (places a ++ (places b ++ (p ∷ [])))
-  places (while p c e) = places c ++ (places e ++ (p ∷ []))
-  places (throw p t e) = places e ++ (p ∷ [])
-  places (try p c x a b) = places a ++ (places b ++ (p ∷ []))
-
-  pub placesAll : Exprs → List ℕ
-  placesAll nil = []
-  placesAll (cons e es) = places e ++ placesAll es
-
 -- no block remembers yet: a tree as it is written
 unfoldable mutual
   pub Written : Expr → Type 0

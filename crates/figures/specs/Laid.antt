@@ -16,13 +16,13 @@ use Rattle.image.specs.Numbers.{variables}
 use Rattle.image.specs.Trailer.{classCount}
 use Rattle.image.specs.Nodes.{nodeWord, kindOf, isClass, isLocal, namesHold, operands, reach, spans, sizeIs, nodeHolds}
 use Rattle.rules.specs.Maps.{tabulate}
-use Rattle.rules.specs.Trees.{Expr, Exprs, operand, nothing, arguments, nodeOf, nodeTree, forest, tree}
+use Rattle.rules.specs.Trees.{Expr, Exprs, operand, nothing, arguments, nodeOf, nodeTree, forest, tree, places, placesAll}
 use Rattle.rules.specs.Program.{Program, Env}
 use Rattle.rules.specs.Typing.{bad, ok, typing}
 use Rattle.rules.specs.Setting.{Vars, setting}
 use Rattle.rules.specs.Sites.{sites, siteTyped, reads}
 use Rattle.figures.specs.Agreement.{InRange, InRangeAll, and-l, and-r, eqb-eq, →T, never}
-use Rattle.figures.specs.FirstBreach.{places, placesAll, Written, WrittenAll, Consecutive}
+use Rattle.figures.specs.FirstBreach.{Written, WrittenAll, Consecutive}
 
 module _ (ws : List ℕ) where
   -- the nodes below n are as record 8 asks

@@ -20,7 +20,7 @@ use Rattle.image.specs.Trailer.{classCount, methodCount, nodeCount, mainNode}
 use Rattle.image.specs.Records.{methodWord}
 use Rattle.image.specs.Nodes.{nodeWord, kindOf, namesHold, operands, reach, spans, sizeIs, nodeHolds, bodyStart, bodyHolds, filledHolds}
 use Rattle.rules.specs.Maps.{tabulate}
-use Rattle.rules.specs.Trees.{Expr, Exprs, new, cast, val, var, add, eq, assign, get, put, call, block, seq, ite, while, throw, try, nil, cons, operand, nothing, written, arguments, nodeOf, nodeTree, forest, tree}
+use Rattle.rules.specs.Trees.{Expr, Exprs, new, cast, val, var, add, eq, assign, get, put, call, block, seq, ite, while, throw, try, nil, cons, operand, nothing, written, arguments, nodeOf, nodeTree, forest, tree, places, placesAll}
 use Rattle.rules.specs.Program.{methodAt, main}
 use Rattle.rules.specs.Numbers.{joined}
 use Rattle.laws.specs.Maps.{range, range-from, range-zero, range-none, range-append, range-last, tabulate-same}
@@ -227,30 +227,6 @@ module _ (ws : List ℕ) where
     pub tree-try : kindOf (nodeWord ws n 0) ≡ Try → tree ws n ≡ try n (nodeWord ws n 2) (nodeWord ws n 3) (tree ws (operand ws n 1)) (tree ws (operand ws n 0))
     unfolding nodeTree nodeOf
     tree-try e = tree-node ∙ rw e
-
--- The places of a tree's nodes, operands before their node.
-unfoldable mutual
-  pub places : Expr → List ℕ
-  places (new p c) = p ∷ []
-  places (cast p c e) = places e ++ (p ∷ [])
-  places (val p v) = p ∷ []
-  places (var p x) = p ∷ []
-  places (add p a b) = places a ++ (places b ++ (p ∷ []))
-  places (eq p a b) = places a ++ (places b ++ (p ∷ []))
-  places (assign p x e) = places e ++ (p ∷ [])
-  places (get p f d e) = places e ++ (p ∷ [])
-  places (put p f d a b) = places a ++ (places b ++ (p ∷ []))
-  places (call p m e es) = places e ++ (placesAll es ++ (p ∷ []))
-  places (block p x t mv e) = places e ++ (p ∷ [])
-  places (seq p a b) = places a ++ (places b ++ (p ∷ []))
-  places (ite p c a b) = places c ++ (places a ++ (places b ++ (p ∷ [])))
-  places (while p c e) = places c ++ (places e ++ (p ∷ []))
-  places (throw p t e) = places e ++ (p ∷ [])
-  places (try p c x a b) = places a ++ (places b ++ (p ∷ []))
-
-  pub placesAll : Exprs → List ℕ
-  placesAll nil = []
-  placesAll (cons e es) = places e ++ placesAll es
 
 -- the places of the last k operands
 unfoldable pub placesBefore : (ℕ → Expr) → (k : ℕ) → List ℕ
