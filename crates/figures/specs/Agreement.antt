@@ -4,7 +4,7 @@ use mathlib.Core.Path.{_≡_, refl, sym, _∙_, ap, ap₂, subst, fun-ext}
 use mathlib.Core.Logic.{_⊎_, inl, inr, ⊎-elim}
 use mathlib.Core.Bool.{Bool, true, false, not, cond, _&&_, _||_}
 use mathlib.Core.Option.{Option, none, some}
-use mathlib.Core.List.{List, [], _∷_}
+use mathlib.Core.List.{List}
 use native.Mathlib.Omega.{arith}
 use lib.Dec.{T, eqb, ltb, eqb→eq, eqb-refl, eqb·suc-zero, lt→ltb}
 use Rattle.words.specs.declared.Value.{Value}
@@ -16,11 +16,11 @@ use Rattle.words.specs.TypeLaws.{type-of-word}
 use Rattle.image.specs.Numbers.{variables}
 use Rattle.rules.specs.Maps.{upd}
 use Rattle.rules.specs.Trees.{Expr, Exprs, new, cast, val, var, add, eq, assign, get, put, call, block, seq, ite, while, throw, try, nil, cons}
-use Rattle.rules.specs.Program.{Field, Method, Program, Env}
+use Rattle.rules.specs.Program.{Program, Env}
 use Rattle.rules.specs.Classes.{subclass, subtype, subtypes, seesField, seesMethod, sameType}
 use Rattle.rules.specs.Typing.{Res, ok, bad, _>>=_, need, found, literal, class, unremembered, typing, typings}
 use Rattle.rules.specs.Setting.{Vars, everyVar, meet, setting, settings}
-use Rattle.figures.specs.Figure1.{typeofLit, SeesField, SeesMethod, Typed, TypedAll, New, Cast, Val, Var, Eq, Add, LAss, FAcc, FAss, Block, Call, Seq, Cond, While, Throw, Try, Nil, Cons}
+use Rattle.figures.specs.Figure1.{typeofLit, Typed, TypedAll, New, Cast, Val, Var, Eq, Add, LAss, FAcc, FAss, Block, Call, Seq, Cond, While, Throw, Try, Nil, Cons}
 use Rattle.figures.specs.Figure2.{with, without, Sets, SetsAll}
 
 -- What an answer tells of its parts.

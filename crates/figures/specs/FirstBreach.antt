@@ -17,7 +17,7 @@ use Rattle.rules.specs.Trees.{Expr, Exprs, new, cast, val, var, add, eq, assign
 use Rattle.rules.specs.Program.{Program, Env}
 use Rattle.rules.specs.Classes.{orElse, subtype, seesField, seesMethod}
 use Rattle.rules.specs.Typing.{Res, ok, bad, _>>=_, need, found, literal, class, unremembered, typing, typings}
-use Rattle.rules.specs.Setting.{Vars, everyVar, meet, setting, settings}
+use Rattle.rules.specs.Setting.{Vars, everyVar, setting, settings}
 use Rattle.rules.specs.Trees.{place, places, placesAll}
 use Rattle.rules.specs.Sites.{Site, sites, sitesAll, typedWithin, siteTyped, after, afterAll, reads, readsAll}
 use Rattle.figures.specs.Agreement.{clash, ok-inj}
@@ -456,7 +456,8 @@ module _ (P : Program) where
   mutual
     unfolding typing unremembered bounded sites siteTyped place places Written
 
-    says : (e : Expr) → Written e → (Γ : Env) (l : Option Ty) → Says (bounded P l (place e) (typing P e Γ)) (map (siteTyped P) (sites e Γ l)) (places e)
+    says : (e : Expr) → Written e → (Γ : Env) (l : Option Ty)
+        → Says (bounded P l (place e) (typing P e Γ)) (map (siteTyped P) (sites e Γ l)) (places e)
     says (new p c) w Γ l = node₀ l p (ok (Class c)) tt
     says (cast p c e) w Γ l =
         rw map-append
@@ -524,10 +525,13 @@ module _ (P : Program) where
   typing-first e w Γ p q = says-first p (says e w Γ none) q
 
   -- a body's last node has a type below the limit besides
-  pub body-exactly : (e : Expr) → Written e → (Γ : Env) (l : Option Ty) → ((t : Ty) × (bounded P l (place e) (typing P e Γ) ≡ ok t)) ↔ AllHold (map (siteTyped P) (sites e Γ l))
+  pub body-exactly : (e : Expr) → Written e → (Γ : Env) (l : Option Ty)
+      → ((t : Ty) × (bounded P l (place e) (typing P e Γ) ≡ ok t)) ↔ AllHold (map (siteTyped P) (sites e Γ l))
   body-exactly e w Γ l = says-exactly (says e w Γ l)
 
-  pub body-first : (e : Expr) → Written e → (Γ : Env) (l : Option Ty) (p : ℕ) → bounded P l (place e) (typing P e Γ) ≡ bad p → FirstBreach (map (siteTyped P) (sites e Γ l)) (places e) p
+  pub body-first : (e : Expr) → Written e → (Γ : Env) (l : Option Ty) (p : ℕ)
+      → bounded P l (place e) (typing P e Γ) ≡ bad p
+      → FirstBreach (map (siteTyped P) (sites e Γ l)) (places e) p
   body-first e w Γ l p q = says-first p (says e w Γ l) q
 
 -- LOWEST
@@ -567,8 +571,17 @@ first-lowest n bs ps p c f =
     never j e h = let z : _≡_ {A = ℕ} 0 1 = cc in omega arith
 
 -- 12 and 13 are at the lowest node that breaks them
-pub typing-lowest : (P : Program) (e : Expr) → Written e → (Γ : Env) (n p : ℕ) → Consecutive n (places e) → typing P e Γ ≡ bad p → Lowest n (map (siteTyped P) (sites e Γ none)) p
+pub typing-lowest : (P : Program) (e : Expr) → Written e → (Γ : Env) (n p : ℕ)
+    → Consecutive n (places e)
+    → typing P e Γ ≡ bad p
+    → Lowest n (map (siteTyped P) (sites e Γ none)) p
 typing-lowest P e w Γ n p c q = first-lowest n _ (places e) p c (typing-first P e w Γ p q)
+
+pub body-lowest : (P : Program) (e : Expr) → Written e → (Γ : Env) (l : Option Ty) (n p : ℕ)
+    → Consecutive n (places e)
+    → bounded P l (place e) (typing P e Γ) ≡ bad p
+    → Lowest n (map (siteTyped P) (sites e Γ l)) p
+body-lowest P e w Γ l n p c q = first-lowest n _ (places e) p c (body-first P e w Γ l p q)
 
 pub setting-lowest : (e : Expr) (I : Vars) (n p : ℕ) → Consecutive n (places e) → setting e I ≡ bad p → Lowest n (reads e I) p
 setting-lowest e I n p c q = first-lowest n _ (places e) p c (setting-first e I p q)

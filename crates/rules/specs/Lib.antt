@@ -11,4 +11,6 @@ pub mod Conform
 pub mod Step
 pub mod Run
 pub mod Numbers
+-- Theorems by computation.
+pub mod Computing
 pub mod Bench
