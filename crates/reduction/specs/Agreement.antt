@@ -25,7 +25,7 @@ use Rattle.reduction.specs.ActivePlace.{placeOf, FirstOf, First, After, 
 pub test-true : (b : Bool) → T b → b ≡ true
 test-true true t = refl
 
-eqb-true : (m n : ℕ) → m ≡ n → eqb m n ≡ true
+pub eqb-true : (m n : ℕ) → m ≡ n → eqb m n ≡ true
 eqb-true m n e = rw e (test-true (eqb n n) (eqb-refl n))
 
 eqb-sound : (m n : ℕ) → eqb m n ≡ true → m ≡ n

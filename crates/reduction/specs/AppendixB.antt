@@ -153,6 +153,7 @@ module _ (P : Program) where
           → Reduces (call p m (val q v) es) h l (thrown-at p a) h l
       -- Block. Inside, the store has x as the block remembers it; afterwards x is given back.
       -- The paper: a block remembers v as soon as its body is `x := v; e` (`blocked`); `block p x t (some v) e` stands for that.
+      -- So the report's premise, that the body of a block that does not remember is not of this form, needs no saying: Remembering.
       BlockStep : {p x : ℕ} {t : Ty} {e e₁ e' : Expr} {h h' : Heap} {l l₀ l₁ l' : Store}
           → upd l x none ≡ l₀
           → Reduces e h l₀ e₁ h' l₁
