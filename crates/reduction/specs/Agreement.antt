@@ -1,24 +1,23 @@
 -- Laws: the function `step` agrees with the relation `Reduces`, both ways, and its place and depth are the active place's.
-use Prim.Native.Nat.{ℕ, zero, suc, _+_, _%_, _^_}
+use Prim.Native.Nat.{ℕ, zero, suc}
 use native.Mathlib.Omega.{arith}
-use mathlib.Core.Path.{_≡_, refl, sym, ap, _∙_}
+use mathlib.Core.Path.{_≡_, refl, ap}
 use mathlib.Core.Bool.{Bool, true, false, cond, _&&_}
 use mathlib.Core.Option.{Option, none, some}
-use mathlib.Core.List.{List, [], _∷_}
+use mathlib.Core.List.{List, _∷_}
 use lib.Dec.{T, eqb, eqb→eq, eqb-refl}
-use lib.ListN.{length, getD, set}
+use lib.ListN.{length}
 use Rattle.words.specs.declared.Value.{Value}
 use Rattle.words.specs.declared.Value.the-variants.{Null, Intg, Addr}
 use Rattle.words.specs.declared.Ty.{Ty}
 use Rattle.words.specs.declared.Ty.the-variants.{Class}
-use Rattle.words.specs.Value.{bit}
 use Rattle.words.specs.Integer.{plusOf}
 use Rattle.rules.specs.Maps.{upd}
 use Rattle.rules.specs.Trees.{Expr, Exprs, new, cast, val, var, add, eq, assign, get, put, call, block, seq, ite, while, throw, try, nil, cons}
 use Rattle.rules.specs.Program.{Method, Program}
 use Rattle.rules.specs.Classes.{subclass, seesMethod, hasFields, fieldIndex}
-use Rattle.rules.specs.Heap.{Slot, free, obj, Heap, look, defaults, lowestFree}
-use Rattle.rules.specs.Step.{Store, nullPointer, classCast, outOfMemory, thrown-at, tag, payload, sameValue, Redex, gives, raises, fails, readRedex, addRedex, eqRedex, newRedex, castSlot, castRedex, getField, getSlot, getRedex, putField, putSlot, putRedex, blocked, load, Out, Outs, value, values, to, redex, under, unders, both, ifOut, throwOut, blockOut, consOut, tailOut, blocks, enter, callSlot, callOut, catchSlot, tryOut, step, steps}
+use Rattle.rules.specs.Heap.{Slot, free, obj, Heap, look, lowestFree}
+use Rattle.rules.specs.Step.{Store, classCast, thrown-at, tag, payload, sameValue, Redex, gives, raises, fails, readRedex, addRedex, eqRedex, newRedex, castSlot, castRedex, getField, getSlot, getRedex, putField, putSlot, putRedex, blocked, load, Out, Outs, value, values, to, redex, under, unders, both, ifOut, throwOut, blockOut, consOut, tailOut, blocks, enter, callSlot, callOut, catchSlot, tryOut, step, steps}
 use Rattle.reduction.specs.AppendixB.{Final, AValue, AnException, Values, NoValue, OneValue, Throws, Now, Later, Reduces, New, NewNoMemory, CastStep, CastNull, Cast, CastFails, CastThrow, AddFirst, AddSecond, Add, AddFirstThrow, AddSecondThrow, EqFirst, EqSecond, EqTrue, EqFalse, EqFirstThrow, EqSecondThrow, Var, AssignStep, Assign, AssignThrow, GetStep, Get, GetNull, GetThrow, SetFirst, SetSecond, Set, SetNull, SetFirstThrow, SetSecondThrow, CallStep, CallArguments, Call, CallNull, CallThrow, CallArgumentThrow, BlockStep, BlockBegins, BlockRemembers, Block, BlockRemembering, BlockThrow, BlockRememberingThrow, SeqStep, Seq, SeqThrow, IfStep, IfTrue, IfFalse, IfThrow, While, ThrowStep, ThrowNull, ThrowThrow, TryStep, Try, TryCatch, TryFails, ReducesAll, ListFirst, ListRest}
 use Rattle.reduction.specs.ActivePlace.{placeOf, FirstOf, First, After, Turn, OfCast, OfAdd, OfAddSecond, OfEq, OfEqSecond, OfAssign, OfGet, OfSet, OfSetSecond, OfCall, OfCallArguments, OfBlock, OfSeq, OfIf, OfThrow, OfTry, Active, Here, Below}
 

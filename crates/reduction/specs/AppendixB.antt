@@ -4,7 +4,7 @@
 use Prim.Native.Nat.{ℕ, _+_, _%_, _^_}
 use mathlib.Core.Path.{_≡_}
 use mathlib.Core.Bool.{Bool, true, false}
-use mathlib.Core.Option.{Option, none, some}
+use mathlib.Core.Option.{none, some}
 use mathlib.Core.List.{List, [], _∷_}
 use lib.ListN.{length, getD, set}
 use Rattle.words.specs.declared.Value.{Value}
@@ -15,7 +15,7 @@ use Rattle.rules.specs.Maps.{upd}
 use Rattle.rules.specs.Trees.{Expr, Exprs, new, cast, val, var, add, eq, assign, get, put, call, block, seq, ite, while, throw, try, nil, cons}
 use Rattle.rules.specs.Program.{Method, Program}
 use Rattle.rules.specs.Classes.{subclass, seesMethod, hasFields, fieldIndex}
-use Rattle.rules.specs.Heap.{Slot, obj, Heap, look, defaults, lowestFree}
+use Rattle.rules.specs.Heap.{obj, Heap, look, defaults, lowestFree}
 use Rattle.rules.specs.Step.{Store, nullPointer, classCast, outOfMemory, thrown-at, blocked, load, blocks}
 
 -- A final expression: a value, or Throw of an address.

@@ -1,9 +1,9 @@
 -- Laws: in a run no block that does not remember has a body `x := v; e` for its own x. The report asks this in its block rules
 -- ("not assigned"); here it holds of every tree made ready to run, and each step keeps it.
-use Prim.Native.Nat.{ℕ, zero, suc}
+use Prim.Native.Nat.{ℕ, suc}
 use native.Mathlib.Omega.{arith}
 use mathlib.Core.Path.{_≡_, refl}
-use mathlib.Core.Bool.{Bool, true, false, cond}
+use mathlib.Core.Bool.{cond}
 use mathlib.Core.Option.{Option, none, some}
 use mathlib.Core.List.{List, [], _∷_}
 use lib.Dec.{eqb}

@@ -1,23 +1,21 @@
 -- Laws: the function `run` agrees with the relation `RunsTo`, both ways, and a start has one end.
 use Prim.Native.Nat.{ℕ, zero, suc, _+_, _≤_, _<_}
 use native.Mathlib.Omega.{arith}
-use mathlib.Core.Path.{_≡_, refl, sym, ap, _∙_}
-use mathlib.Core.Bool.{Bool, true, false, cond, not}
+use mathlib.Core.Path.{_≡_, refl, ap}
+use mathlib.Core.Bool.{Bool, true, false, cond}
 use mathlib.Core.Logic.{_↔_}
-use lib.Dec.{T, leb, ltb, leb→le, nleb→lt, le→leb, ltb→lt, nltb→le}
-use Rattle.words.specs.declared.Value.{Value}
-use Rattle.words.specs.declared.Value.the-variants.{Addr}
+use lib.Dec.{leb, ltb, leb→le, nleb→lt, le→leb, ltb→lt, nltb→le}
 use Rattle.rules.specs.declared.End.{End}
 use Rattle.rules.specs.declared.End.the-variants.{Returned, Threw, OutOfSteps, TooDeep, Stuck}
-use Rattle.rules.specs.Trees.{Expr, val, throw}
+use Rattle.rules.specs.Trees.{Expr}
 use Rattle.rules.specs.Program.{Program}
 use Rattle.rules.specs.Heap.{Heap}
 use Rattle.rules.specs.Step.{Store, Out, value, step}
 use Rattle.rules.specs.Run.{Ended, judge, run}
-use Rattle.reduction.specs.AppendixB.{Final, AValue, AnException, Reduces}
+use Rattle.reduction.specs.AppendixB.{AValue, AnException, Reduces}
 use Rattle.reduction.specs.ActivePlace.{Active}
 use Rattle.reduction.specs.Agreement.{test-true, Does, does, unfinished, one-place, Exception, Thrown, told-value, told-thrown, told-next, told-stuck, one-step}
-use Rattle.reduction.specs.Runs.{Reduction, Rest, Step, Fits, EndsAt, IsValue, IsException, IsDeep, NoRule, AtLimit, GoesOn, NoTest, RunsTo}
+use Rattle.reduction.specs.Runs.{Reduction, Rest, Step, EndsAt, IsValue, IsException, IsDeep, NoRule, AtLimit, GoesOn, NoTest, RunsTo}
 
 same-ended : (w w' : Ended) → w .end ≡ w' .end → w .count ≡ w' .count → w .heap ≡ w' .heap → w ≡ w'
 same-ended w w' p q r = λ i. record { end = p i; count = q i; heap = r i }
