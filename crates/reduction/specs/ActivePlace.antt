@@ -4,7 +4,7 @@ use mathlib.Core.Path.{_≡_}
 use mathlib.Core.Option.{Option}
 use Rattle.words.specs.declared.Value.{Value}
 use Rattle.words.specs.declared.Ty.{Ty}
-use Rattle.rules.specs.Trees.{Expr, Exprs, new, cast, val, var, add, eq, assign, get, put, call, block, seq, ite, while, throw, try, nil, cons}
+use Rattle.rules.specs.Trees.{Expr, Exprs, new, cast, val, var, add, eq, assign, get, put, call, block, seq, ite, while, throw, try, cons}
 use Rattle.reduction.specs.AppendixB.{Final}
 
 unfoldable pub placeOf : Expr → ℕ

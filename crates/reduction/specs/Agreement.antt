@@ -1,31 +1,30 @@
 -- Laws: the function `step` agrees with the relation `Reduces`, both ways, and its place and depth are the active place's.
-use Prim.Native.Nat.{ℕ, zero, suc, _+_, _%_, _^_}
+use Prim.Native.Nat.{ℕ, zero, suc}
 use native.Mathlib.Omega.{arith}
-use mathlib.Core.Path.{_≡_, refl, sym, ap, _∙_}
+use mathlib.Core.Path.{_≡_, refl, ap}
 use mathlib.Core.Bool.{Bool, true, false, cond, _&&_}
 use mathlib.Core.Option.{Option, none, some}
-use mathlib.Core.List.{List, [], _∷_}
+use mathlib.Core.List.{List, _∷_}
 use lib.Dec.{T, eqb, eqb→eq, eqb-refl}
-use lib.ListN.{length, getD, set}
+use lib.ListN.{length}
 use Rattle.words.specs.declared.Value.{Value}
 use Rattle.words.specs.declared.Value.the-variants.{Null, Intg, Addr}
 use Rattle.words.specs.declared.Ty.{Ty}
 use Rattle.words.specs.declared.Ty.the-variants.{Class}
-use Rattle.words.specs.Value.{bit}
 use Rattle.words.specs.Integer.{plusOf}
 use Rattle.rules.specs.Maps.{upd}
 use Rattle.rules.specs.Trees.{Expr, Exprs, new, cast, val, var, add, eq, assign, get, put, call, block, seq, ite, while, throw, try, nil, cons}
 use Rattle.rules.specs.Program.{Method, Program}
 use Rattle.rules.specs.Classes.{subclass, seesMethod, hasFields, fieldIndex}
-use Rattle.rules.specs.Heap.{Slot, free, obj, Heap, look, defaults, lowestFree}
-use Rattle.rules.specs.Step.{Store, nullPointer, classCast, outOfMemory, thrown-at, tag, payload, sameValue, Redex, gives, raises, fails, readRedex, addRedex, eqRedex, newRedex, castSlot, castRedex, getField, getSlot, getRedex, putField, putSlot, putRedex, blocked, load, Out, Outs, value, values, to, redex, under, unders, both, ifOut, throwOut, blockOut, consOut, tailOut, blocks, enter, callSlot, callOut, catchSlot, tryOut, step, steps}
+use Rattle.rules.specs.Heap.{Slot, free, obj, Heap, look, lowestFree}
+use Rattle.rules.specs.Step.{Store, classCast, thrown-at, tag, payload, sameValue, Redex, gives, raises, fails, readRedex, addRedex, eqRedex, newRedex, castSlot, castRedex, getField, getSlot, getRedex, putField, putSlot, putRedex, blocked, load, Out, Outs, value, values, to, redex, under, unders, both, ifOut, throwOut, blockOut, consOut, tailOut, blocks, enter, callSlot, callOut, catchSlot, tryOut, step, steps}
 use Rattle.reduction.specs.AppendixB.{Final, AValue, AnException, Values, NoValue, OneValue, Throws, Now, Later, Reduces, New, NewNoMemory, CastStep, CastNull, Cast, CastFails, CastThrow, AddFirst, AddSecond, Add, AddFirstThrow, AddSecondThrow, EqFirst, EqSecond, EqTrue, EqFalse, EqFirstThrow, EqSecondThrow, Var, AssignStep, Assign, AssignThrow, GetStep, Get, GetNull, GetThrow, SetFirst, SetSecond, Set, SetNull, SetFirstThrow, SetSecondThrow, CallStep, CallArguments, Call, CallNull, CallThrow, CallArgumentThrow, BlockStep, BlockBegins, BlockRemembers, Block, BlockRemembering, BlockThrow, BlockRememberingThrow, SeqStep, Seq, SeqThrow, IfStep, IfTrue, IfFalse, IfThrow, While, ThrowStep, ThrowNull, ThrowThrow, TryStep, Try, TryCatch, TryFails, ReducesAll, ListFirst, ListRest}
 use Rattle.reduction.specs.ActivePlace.{placeOf, FirstOf, First, After, Turn, OfCast, OfAdd, OfAddSecond, OfEq, OfEqSecond, OfAssign, OfGet, OfSet, OfSetSecond, OfCall, OfCallArguments, OfBlock, OfSeq, OfIf, OfThrow, OfTry, Active, Here, Below}
 
-test-true : (b : Bool) → T b → b ≡ true
+pub test-true : (b : Bool) → T b → b ≡ true
 test-true true t = refl
 
-eqb-true : (m n : ℕ) → m ≡ n → eqb m n ≡ true
+pub eqb-true : (m n : ℕ) → m ≡ n → eqb m n ≡ true
 eqb-true m n e = rw e (test-true (eqb n n) (eqb-refl n))
 
 eqb-sound : (m n : ℕ) → eqb m n ≡ true → m ≡ n
@@ -79,6 +78,9 @@ blocked-set p x t v e = refl
 -- Throw of an address, and this address
 pub data Exception : Expr → ℕ → Type 0 where
   Thrown : {p q a : ℕ} {t : Ty} → Exception (throw p t (val q (Addr a))) a
+
+exception-final : {e : Expr} {a : ℕ} → Exception e a → Final e
+exception-final Thrown = AnException
 
 -- The active place is here: the operands in turn are final. With two operands, the second has its turn after a value.
 data Then (B : Type 0) : Expr → Type 0 where
@@ -796,3 +798,19 @@ module _ (P : Program) where
   unfolding Does step under throwOut
   final-rests AValue r = let i = does r .2 in let z : _≡_ {A = ℕ} 0 1 = cc in absurd (omega arith)
   final-rests AnException r = let i = does r .2 in let z : _≡_ {A = ℕ} 0 1 = cc in absurd (omega arith)
+
+  -- The other way round: an active place is the one that `step` tells.
+  abbrev pub At : Out → (depth place : ℕ) → Type 0
+  At (value r v) d q = ⊥
+  At (Out.thrown a) d q = ⊥
+  At (Out.next d' q' h' l' e') d q = (d' ≡ d) × (q' ≡ q)
+  At (Out.stuck d' q') d q = (d' ≡ d) × (q' ≡ q)
+
+  pub active-told : {e : Expr} {d q : ℕ} → Active e d q → (h : Heap) (l : Store) → At (step P e h l) d q
+  active-told {e} {d} {q} a h l = go (step P e h l) (tells e h l)
+    where
+      go : (o : Out) → Tells o e h l → At o d q
+      go (value r v) s = unfinished (rw s at a) AValue
+      go (Out.thrown x) s = unfinished a (exception-final s)
+      go (Out.next d' q' h' l' e') s = one-place (s .active) a
+      go (Out.stuck d' q') s = one-place s a

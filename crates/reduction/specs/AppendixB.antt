@@ -4,7 +4,7 @@
 use Prim.Native.Nat.{ℕ, _+_, _%_, _^_}
 use mathlib.Core.Path.{_≡_}
 use mathlib.Core.Bool.{Bool, true, false}
-use mathlib.Core.Option.{Option, none, some}
+use mathlib.Core.Option.{none, some}
 use mathlib.Core.List.{List, [], _∷_}
 use lib.ListN.{length, getD, set}
 use Rattle.words.specs.declared.Value.{Value}
@@ -15,7 +15,7 @@ use Rattle.rules.specs.Maps.{upd}
 use Rattle.rules.specs.Trees.{Expr, Exprs, new, cast, val, var, add, eq, assign, get, put, call, block, seq, ite, while, throw, try, nil, cons}
 use Rattle.rules.specs.Program.{Method, Program}
 use Rattle.rules.specs.Classes.{subclass, seesMethod, hasFields, fieldIndex}
-use Rattle.rules.specs.Heap.{Slot, obj, Heap, look, defaults, lowestFree}
+use Rattle.rules.specs.Heap.{obj, Heap, look, defaults, lowestFree}
 use Rattle.rules.specs.Step.{Store, nullPointer, classCast, outOfMemory, thrown-at, blocked, load, blocks}
 
 -- A final expression: a value, or Throw of an address.
@@ -153,6 +153,7 @@ module _ (P : Program) where
           → Reduces (call p m (val q v) es) h l (thrown-at p a) h l
       -- Block. Inside, the store has x as the block remembers it; afterwards x is given back.
       -- The paper: a block remembers v as soon as its body is `x := v; e` (`blocked`); `block p x t (some v) e` stands for that.
+      -- So the report's premise, that the body of a block that does not remember is not of this form, needs no saying: Remembering.
       BlockStep : {p x : ℕ} {t : Ty} {e e₁ e' : Expr} {h h' : Heap} {l l₀ l₁ l' : Store}
           → upd l x none ≡ l₀
           → Reduces e h l₀ e₁ h' l₁

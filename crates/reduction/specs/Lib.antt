@@ -4,3 +4,4 @@ pub mod ActivePlace
 pub mod Agreement
 pub mod Runs
 pub mod RunLaws
+pub mod Remembering

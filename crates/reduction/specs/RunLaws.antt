@@ -1,23 +1,21 @@
 -- Laws: the function `run` agrees with the relation `RunsTo`, both ways, and a start has one end.
 use Prim.Native.Nat.{ℕ, zero, suc, _+_, _≤_, _<_}
 use native.Mathlib.Omega.{arith}
-use mathlib.Core.Path.{_≡_, refl, sym, ap, _∙_}
-use mathlib.Core.Bool.{Bool, true, false, cond, not}
+use mathlib.Core.Path.{_≡_, refl, ap}
+use mathlib.Core.Bool.{Bool, true, false, cond}
 use mathlib.Core.Logic.{_↔_}
-use lib.Dec.{T, leb, ltb, leb→le, nleb→lt, le→leb, ltb→lt, nltb→le}
-use Rattle.words.specs.declared.Value.{Value}
-use Rattle.words.specs.declared.Value.the-variants.{Addr}
+use lib.Dec.{leb, ltb, leb→le, nleb→lt, le→leb, ltb→lt, nltb→le}
 use Rattle.rules.specs.declared.End.{End}
 use Rattle.rules.specs.declared.End.the-variants.{Returned, Threw, OutOfSteps, TooDeep, Stuck}
-use Rattle.rules.specs.Trees.{Expr, val, throw}
+use Rattle.rules.specs.Trees.{Expr}
 use Rattle.rules.specs.Program.{Program}
 use Rattle.rules.specs.Heap.{Heap}
 use Rattle.rules.specs.Step.{Store, Out, value, step}
 use Rattle.rules.specs.Run.{Ended, judge, run}
-use Rattle.reduction.specs.AppendixB.{Final, AValue, AnException, Reduces}
+use Rattle.reduction.specs.AppendixB.{AValue, AnException, Reduces}
 use Rattle.reduction.specs.ActivePlace.{Active}
-use Rattle.reduction.specs.Agreement.{unfinished, one-place, Exception, Thrown, told-value, told-thrown, told-next, told-stuck, one-step}
-use Rattle.reduction.specs.Runs.{Reduction, Rest, Step, Fits, EndsAt, IsValue, IsException, IsDeep, NoRule, AtLimit, GoesOn, NoTest, RunsTo}
+use Rattle.reduction.specs.Agreement.{test-true, Does, does, unfinished, one-place, Exception, Thrown, told-value, told-thrown, told-next, told-stuck, one-step}
+use Rattle.reduction.specs.Runs.{Reduction, Rest, Step, EndsAt, IsValue, IsException, IsDeep, NoRule, AtLimit, GoesOn, NoTest, RunsTo}
 
 same-ended : (w w' : Ended) → w .end ≡ w' .end → w .count ≡ w' .count → w .heap ≡ w' .heap → w ≡ w'
 same-ended w w' p q r = λ i. record { end = p i; count = q i; heap = r i }
@@ -200,3 +198,72 @@ module _ (P : Program) where
     -- The count is the length of the reduction, and at most the limit.
     pub counted : {e : Expr} {h : Heap} {l : Store} {w : Ended} → RunsTo P limit depth e h l w → w .count ≤ limit
     counted {e} {h} {l} {w} r = rw (← (run-agrees e h l w .1 r)) (runs limit 0 (omega arith) e h l .within)
+
+  module _ (depth : ℕ) where
+    -- With a larger limit: a run that ended otherwise than by its limit ends so again.
+    other-limit : {n n' k : ℕ} {e : Expr} {h : Heap} {l : Store} {x : End} → EndsAt P n depth k e h l x → ¬ (x ≡ OutOfSteps)
+        → EndsAt P n' depth k e h l x
+    other-limit IsValue o = IsValue
+    other-limit IsException o = IsException
+    other-limit (IsDeep a d) o = IsDeep a d
+    other-limit (NoRule a d f) o = NoRule a d f
+    other-limit (AtLimit a d f b) o = absurd (o refl)
+
+    goes-further : {n n' k : ℕ} {e : Expr} {h : Heap} {l : Store} → n ≤ n' → GoesOn P n depth k e h l → GoesOn P n' depth k e h l
+    goes-further {n' = n'} {k = k} b (NoTest a d f c) = let t : k < n' = omega arith in NoTest a d f t
+
+    pub ends-again : {n n' : ℕ} {e : Expr} {h : Heap} {l : Store} {w : Ended} → n ≤ n' → ¬ (w .end ≡ OutOfSteps)
+        → RunsTo P n depth e h l w → RunsTo P n' depth e h l w
+    ends-again b o r =
+        record {
+          last = r .last;
+          store = r .store;
+          path = r .path;
+          before = λ m lt. goes-further b (r .before m lt);
+          ends = other-limit (r .ends) o;
+        }
+
+    -- Where it ended by its limit, the run with m steps more goes on from there.
+    limit-reached : {n k : ℕ} {e : Expr} {h : Heap} {l : Store} {x : End} → EndsAt P n depth k e h l x → x ≡ OutOfSteps → n ≤ k
+    limit-reached IsValue o = let z : _≡_ {A = ℕ} 0 1 = cc in absurd (omega arith)
+    limit-reached IsException o = let z : _≡_ {A = ℕ} 0 1 = cc in absurd (omega arith)
+    limit-reached (IsDeep a d) o = let z : _≡_ {A = ℕ} 0 1 = cc in absurd (omega arith)
+    limit-reached (NoRule a d f) o = let z : _≡_ {A = ℕ} 0 1 = cc in absurd (omega arith)
+    limit-reached (AtLimit a d f b) o = b
+
+    Shallow : Expr → Type 0
+    Shallow e = (d : ℕ) × (q : ℕ) × Active e d q × (d ≤ depth)
+
+    shallow : {n k : ℕ} {e : Expr} {h : Heap} {l : Store} → GoesOn P n depth k e h l → Shallow e
+    unfolding Shallow
+    shallow (NoTest {d = d} {q = q} a b f c) = (d, q, a, b)
+
+    one-on : (n k : ℕ) {e e₁ : Expr} {h h₁ : Heap} {l l₁ : Store} → Reduces P e h l e₁ h₁ l₁ → Shallow e
+        → run depth P (suc n) k h l e ≡ run depth P n (suc k) h₁ l₁ e₁
+    unfolding Shallow Does run judge
+    one-on n k {e} {h = h} {l = l} r s =
+        let i = does P r in
+        let a = told-next P e h l (i .2) .1 in
+        let q = one-place a (s .2) .0 in
+        let t : i .0 ≤ depth = rw q (s .3) in
+        rw (i .2, test-true (leb (i .0) depth) (le→leb (i .0) depth t))
+
+    follow : {j : ℕ} {e e' : Expr} {h h' : Heap} {l l' : Store} (m k : ℕ) → Reduction P j e h l e' h' l'
+        → ((i : ℕ) (e₁ : Expr) (h₁ : Heap) (l₁ : Store) → Reduction P i e h l e₁ h₁ l₁ → i < j → Shallow e₁)
+        → run depth P (j + m) k h l e ≡ run depth P m (k + j) h' l' e'
+    follow m k Rest g = let p : 0 + m ≡ m = omega arith in let q : k + 0 ≡ k = omega arith in rw (p, q)
+    follow {h = h} {l = l} m k (Step {k = j} {e = e} r s) g =
+        let p : suc j + m ≡ suc (j + m) = omega arith in
+        let q : k + suc j ≡ suc k + j = omega arith in
+        let i = follow m (suc k) s (λ i e₁ h₁ l₁ t b. g (suc i) e₁ h₁ l₁ (Step r t) (omega arith)) in
+        rw (p, q, ← i) (one-on (j + m) k r (g 0 e h l Rest (omega arith)))
+
+    pub goes-on : {n : ℕ} {e : Expr} {h : Heap} {l : Store} {w : Ended} (m : ℕ) (r : RunsTo P n depth e h l w) → w .end ≡ OutOfSteps
+        → run depth P (n + m) 0 h l e ≡ run depth P m n (w .heap) (r .store) (r .last)
+    goes-on {n} {e} {h} {l} {w} m r o =
+        let a = limit-reached (r .ends) o in
+        let b = counted n depth r in
+        let c : w .count ≡ n = omega arith in
+        let z : 0 + w .count ≡ w .count = omega arith in
+        let f = follow m 0 (r .path) (λ i e₁ h₁ l₁ t lt. shallow (r .before t lt)) in
+        rw (z, c) at f
