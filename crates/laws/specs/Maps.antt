@@ -1,4 +1,4 @@
--- Laws of maps: `upd`, `tabulate` and `from`.
+-- Laws of maps and their tables: `upd`, `tabulate`, `from`, and stretches of a table.
 use mathlib.Core.Path.{_≡_, refl, sym, _∙_, ap, fun-ext}
 use mathlib.Core.Bool.{Bool, true, false, cond}
 use mathlib.Core.Option.{Option, none, some}
@@ -10,6 +10,7 @@ use lib.ListN.{length, getD, take, drop}
 use lib.Seq.{drop-cons}
 use borrow.Author.Tests.{eqb-true, eq-eqb, ne-eqb}
 use Rattle.rules.specs.Maps.{upd, tabulate, from}
+use Rattle.rules.specs.Numbers.{joined}
 
 module _ {ℓ} {A : Type ℓ} where
   pub upd-same : (f : ℕ → A) (x : ℕ) (a : A) → upd f x a x ≡ a
@@ -150,36 +151,59 @@ unfolding tabulate
 map-tabulate g zero f = refl
 map-tabulate g (suc n) f = ap (g (f 0) ∷_) (map-tabulate g n (λ i. f (suc i)))
 
--- The numbers from b on and below e.
-unfoldable pub range : (b e : ℕ) → List ℕ
-range b e = tabulate (e - b) (λ i. b + i)
+-- The values of a map from b on and below e.
+unfoldable pub stretch {ℓ} : {A : Type ℓ} → (ℕ → A) → (b e : ℕ) → List A
+stretch f b e = tabulate (e - b) (λ i. f (b + i))
 
-pub range-from : (b n : ℕ) → range b (b + n) ≡ tabulate n (λ i. b + i)
-unfolding range
-range-from b n = let e : b + n - b ≡ n = omega arith in rw e
+module _ {ℓ} {A : Type ℓ} (f : ℕ → A) where
+  pub length-stretch : (b e : ℕ) → length (stretch f b e) ≡ e - b
+  unfolding stretch
+  length-stretch b e = length-tabulate (e - b) (λ i. f (b + i))
 
-pub range-zero : (n : ℕ) → range 0 n ≡ tabulate n (λ i. i)
-unfolding range
-range-zero n = let e : n - 0 ≡ n = omega arith in rw e (tabulate-same n (λ i. 0 + i) (λ i. i) (λ i h. omega arith))
+  pub stretch-from : (b n : ℕ) → stretch f b (b + n) ≡ tabulate n (λ i. f (b + i))
+  unfolding stretch
+  stretch-from b n = let e : b + n - b ≡ n = omega arith in rw e
 
-pub range-none : (b : ℕ) → range b b ≡ []
-unfolding range tabulate
-range-none b = let e : b - b ≡ 0 = omega arith in rw e
+  pub stretch-zero : (n : ℕ) → stretch f 0 n ≡ tabulate n f
+  unfolding stretch
+  stretch-zero n =
+      let e : n - 0 ≡ n = omega arith in
+      rw e (tabulate-same n (λ i. f (0 + i)) f (λ i h. let q : 0 + i ≡ i = omega arith in ap f q))
 
-pub range-append : (b m e : ℕ) → b ≤ m → m ≤ e → range b m ++ range m e ≡ range b e
-unfolding range
-range-append b m e h k =
-    let p : m - b + (e - m) ≡ e - b = omega arith in
-    let q = tabulate-same (e - m) (λ i. m + i) (λ i. b + (m - b + i)) (λ i l. omega arith) in
-    rw (q, ← p) (tabulate-append (m - b) (e - m) (λ i. b + i))
+  pub stretch-none : (b : ℕ) → stretch f b b ≡ []
+  unfolding stretch tabulate
+  stretch-none b = let e : b - b ≡ 0 = omega arith in rw e
 
-pub range-last : (b n : ℕ) → b ≤ n → range b (suc n) ≡ range b n ++ (n ∷ [])
-unfolding range
-range-last b n h =
-    let p : suc n - b ≡ suc (n - b) = omega arith in
-    let q : b + (n - b) ≡ n = omega arith in
-    rw (p, tabulate-last (n - b) (λ i. b + i), q)
+  pub stretch-append : (b m e : ℕ) → b ≤ m → m ≤ e → stretch f b m ++ stretch f m e ≡ stretch f b e
+  unfolding stretch
+  stretch-append b m e h k =
+      let p : m - b + (e - m) ≡ e - b = omega arith in
+      let q =
+          tabulate-same (e - m) (λ i. f (m + i)) (λ i. f (b + (m - b + i)))
+          (λ i l. let z : m + i ≡ b + (m - b + i) = omega arith in ap f z) in
+      rw (q, ← p) (tabulate-append (m - b) (e - m) (λ i. f (b + i)))
 
-pub length-range : (b e : ℕ) → length (range b e) ≡ e - b
-unfolding range
-length-range b e = length-tabulate (e - b) (λ i. b + i)
+  pub stretch-last : (b n : ℕ) → b ≤ n → stretch f b (suc n) ≡ stretch f b n ++ (f n ∷ [])
+  unfolding stretch
+  stretch-last b n h =
+      let p : suc n - b ≡ suc (n - b) = omega arith in
+      let q : b + (n - b) ≡ n = omega arith in
+      rw (p, tabulate-last (n - b) (λ i. f (b + i)), q)
+
+  pub stretch-same : (g : ℕ → A) (b e : ℕ) → ((i : ℕ) → b ≤ i → i < e → f i ≡ g i) → stretch f b e ≡ stretch g b e
+  unfolding stretch
+  stretch-same g b e h = tabulate-same (e - b) _ _ (λ i l. h (b + i) (omega arith) (omega arith))
+
+-- stretches that follow each other
+pub rising-le : (s : ℕ → ℕ) (n : ℕ) → ((i : ℕ) → i < n → s i ≤ s (suc i)) → s 0 ≤ s n
+rising-le s zero h = omega arith
+rising-le s (suc n) h = omega (arith, h n (omega arith), rising-le s n (λ i l. h i (omega arith)))
+
+pub joined-stretches {ℓ} : {A : Type ℓ} (f : ℕ → A) (s : ℕ → ℕ) (n : ℕ) → ((i : ℕ) → i < n → s i ≤ s (suc i))
+    → joined (tabulate n (λ i. stretch f (s i) (s (suc i)))) ≡ stretch f (s 0) (s n)
+unfolding joined tabulate
+joined-stretches f s zero h = sym (stretch-none f (s 0))
+joined-stretches f s (suc n) h =
+    let u : ℕ → ℕ = λ i. s (suc i) in
+    let k : (i : ℕ) → i < n → u i ≤ u (suc i) = λ i l. h (suc i) (omega arith) in
+    rw (joined-stretches f u n k) (stretch-append f (s 0) (s 1) (s (suc n)) (h 0 (omega arith)) (rising-le u n k))
