@@ -2,6 +2,7 @@
 pub mod Maps
 pub mod Trees
 pub mod Postorder
+pub mod Sites
 pub mod Classes
 pub mod Heap
 pub mod Frames

@@ -1,0 +1,72 @@
+-- Laws of sites and reads: there is one for each node, in the order of the nodes.
+use mathlib.Core.Path.{_≡_, refl, sym, _∙_, ap}
+use mathlib.Core.Bool.{Bool, true, false}
+use mathlib.Core.Option.{Option, none, some}
+use mathlib.Core.List.{List, [], _∷_, _++_, map, map-append}
+use Prim.Native.Nat.{ℕ, zero, suc, _+_, _≤_, _<_}
+use native.Mathlib.Omega.{arith}
+use lib.ListN.{length, getD, length-append, length-map, List·getD-map}
+use Rattle.words.specs.declared.Ty.{Ty}
+use Rattle.words.specs.declared.Ty.the-variants.{Class}
+use Rattle.image.specs.Trailer.{methodCount, nodeCount, inputCount}
+use Rattle.image.specs.Nodes.{nodeHolds, filledHolds}
+use Rattle.image.specs.Layout.{tested}
+use Rattle.order.specs.Rules.{Rule}
+use Rattle.rules.specs.Maps.{upd, tabulate}
+use Rattle.rules.specs.Trees.{Expr, Exprs, new, cast, val, var, add, eq, assign, get, put, call, block, seq, ite, while, throw, try, nil, cons, tree}
+use Rattle.rules.specs.Program.{Env, program, methodAt, main, methodEnv, mainEnv}
+use Rattle.rules.specs.Setting.{Vars, between}
+use Rattle.rules.specs.Sites.{Site, sites, sitesAll, siteTyped, after, reads, readsAll}
+use Rattle.rules.specs.Numbers.{joined, methodSites, allSites, typingRule, methodReads, allReads, settingRule}
+use Rattle.laws.specs.Maps.{length-tabulate, getD-tabulate, tabulate-same, map-tabulate}
+use Rattle.laws.specs.Postorder.{postorder, postorderAll, parts, all-postorder}
+
+mutual
+  unfolding sites postorder
+
+  pub sites-parts : (e : Expr) (Γ : Env) (r : Option Ty) → map (λ s. s .tree) (sites e Γ r) ≡ parts e
+  sites-parts (new p c) Γ r = refl
+  sites-parts (cast p c e) Γ r = simp (map-append, sites-parts e Γ none)
+  sites-parts (val p v) Γ r = refl
+  sites-parts (var p x) Γ r = refl
+  sites-parts (add p a b) Γ r = simp (map-append, sites-parts a Γ none, sites-parts b Γ none)
+  sites-parts (eq p a b) Γ r = simp (map-append, sites-parts a Γ none, sites-parts b Γ none)
+  sites-parts (assign p x e) Γ r = simp (map-append, sites-parts e Γ none)
+  sites-parts (get p f d e) Γ r = simp (map-append, sites-parts e Γ none)
+  sites-parts (put p f d a b) Γ r = simp (map-append, sites-parts a Γ none, sites-parts b Γ none)
+  sites-parts (call p m e es) Γ r = simp (map-append, sites-parts e Γ none, sitesAll-parts es Γ)
+  sites-parts (block p x t mv e) Γ r = simp (map-append, sites-parts e (upd Γ x (some t)) none)
+  sites-parts (seq p a b) Γ r = simp (map-append, sites-parts a Γ none, sites-parts b Γ none)
+  sites-parts (ite p c a b) Γ r = simp (map-append, sites-parts c Γ none, sites-parts a Γ none, sites-parts b Γ none)
+  sites-parts (while p c e) Γ r = simp (map-append, sites-parts c Γ none, sites-parts e Γ none)
+  sites-parts (throw p t e) Γ r = simp (map-append, sites-parts e Γ none)
+  sites-parts (try p c x a b) Γ r = simp (map-append, sites-parts a Γ none, sites-parts b (upd Γ x (some (Class c))) none)
+
+  pub sitesAll-parts : (es : Exprs) (Γ : Env) → map (λ s. s .tree) (sitesAll es Γ) ≡ postorderAll (λ t. t) es
+  sitesAll-parts nil Γ = refl
+  sitesAll-parts (cons e es) Γ = simp (map-append, sites-parts e Γ none, sitesAll-parts es Γ)
+
+mutual
+  unfolding reads postorder
+
+  pub reads-parts : (e : Expr) (I : Vars) → length (reads e I) ≡ length (parts e)
+  reads-parts (new p c) I = refl
+  reads-parts (cast p c e) I = simp (length-append, reads-parts e I)
+  reads-parts (val p v) I = refl
+  reads-parts (var p x) I = refl
+  reads-parts (add p a b) I = simp (length-append, reads-parts a I, reads-parts b (after a I))
+  reads-parts (eq p a b) I = simp (length-append, reads-parts a I, reads-parts b (after a I))
+  reads-parts (assign p x e) I = simp (length-append, reads-parts e I)
+  reads-parts (get p f d e) I = simp (length-append, reads-parts e I)
+  reads-parts (put p f d a b) I = simp (length-append, reads-parts a I, reads-parts b (after a I))
+  reads-parts (call p m e es) I = simp (length-append, reads-parts e I, readsAll-parts es (after e I))
+  reads-parts (block p x t mv e) I = simp (length-append, reads-parts e (upd I x false))
+  reads-parts (seq p a b) I = simp (length-append, reads-parts a I, reads-parts b (after a I))
+  reads-parts (ite p c a b) I = simp (length-append, reads-parts c I, reads-parts a (after c I), reads-parts b (after c I))
+  reads-parts (while p c e) I = simp (length-append, reads-parts c I, reads-parts e (after c I))
+  reads-parts (throw p t e) I = simp (length-append, reads-parts e I)
+  reads-parts (try p c x a b) I = simp (length-append, reads-parts a I, reads-parts b (upd I x true))
+
+  pub readsAll-parts : (es : Exprs) (I : Vars) → length (readsAll es I) ≡ length (postorderAll (λ t. t) es)
+  readsAll-parts nil I = refl
+  readsAll-parts (cons e es) I = simp (length-append, reads-parts e I, readsAll-parts es (after e I))
