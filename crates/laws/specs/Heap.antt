@@ -30,7 +30,7 @@ use Rattle.rules.specs.Program.{Field, Program, program}
 use Rattle.rules.specs.Classes.{hasFields}
 use Rattle.rules.specs.Heap.{Slot, free, obj, Heap, look, default, defaults, freeFrom, lowestFree, slotWords, slotAt, heapOf, slotWordsOf, wordsOf}
 use Rattle.rules.specs.Numbers.{fieldsRule, heapWordRule, mostFieldsAbove, fewestSlots, mostSlots, heapLengthHolds, slotWordHolds, slotFirst}
-use Rattle.laws.specs.Maps.{length-tabulate, getD-tabulate, tabulate-same, tabulate-getD, tabulate-all}
+use Rattle.laws.specs.Maps.{length-tabulate, getD-tabulate, tabulate-same, tabulate-getD, tabulate-all, getD-map}
 
 -- two facts about lists
 map-set {ℓ} : {A B : Type ℓ} (f : A → B) (l : List A) (i : ℕ) (a : A) → map f (set l i a) ≡ set (map f l) i (f a)
@@ -77,12 +77,7 @@ slot-class c vs = refl
 pub slot-field : (c : ℕ) (vs : List Value) (i : ℕ) (d : Value) → i < length vs → getD (slotWordsOf (obj c vs)) (suc i) 0 ≡ wordOf (getD vs i d)
 unfolding slotWordsOf
 slot-field c vs i d l =
-    List·getD-append (map wordOf vs) _ 0 i (rw length-map l) ∙ getD-map vs i l
-  where
-    getD-map : (vs : List Value) (i : ℕ) → i < length vs → getD (map wordOf vs) i 0 ≡ wordOf (getD vs i d)
-    getD-map [] i l = absurd (omega arith)
-    getD-map (v ∷ vs) zero l = refl
-    getD-map (v ∷ vs) (suc i) l = getD-map vs i (omega arith)
+    List·getD-append (map wordOf vs) _ 0 i (rw length-map l) ∙ getD-map wordOf vs i 0 d l
 
 pub slot-rest : (c : ℕ) (vs : List Value) (i : ℕ) → length vs ≤ i → suc i < slotWords → getD (slotWordsOf (obj c vs)) (suc i) 0 ≡ 0
 unfolding slotWordsOf

@@ -151,6 +151,11 @@ unfolding tabulate
 map-tabulate g zero f = refl
 map-tabulate g (suc n) f = ap (g (f 0) ∷_) (map-tabulate g n (λ i. f (suc i)))
 
+pub getD-map {ℓ κ} : {A : Type ℓ} {B : Type κ} (g : A → B) (l : List A) (i : ℕ) (b : B) (a : A) → i < length l → getD (map g l) i b ≡ g (getD l i a)
+getD-map g [] i b a h = absurd (omega arith)
+getD-map g (x ∷ l) zero b a h = refl
+getD-map g (x ∷ l) (suc i) b a h = getD-map g l i b a (omega arith)
+
 -- The values of a map from b on and below e.
 unfoldable pub stretch {ℓ} : {A : Type ℓ} → (ℕ → A) → (b e : ℕ) → List A
 stretch f b e = tabulate (e - b) (λ i. f (b + i))

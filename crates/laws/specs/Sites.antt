@@ -18,7 +18,7 @@ use Rattle.rules.specs.Program.{Env, program, methodAt, main, methodEnv, mainEn
 use Rattle.rules.specs.Setting.{Vars, between}
 use Rattle.rules.specs.Sites.{Site, sites, sitesAll, siteTyped, after, reads, readsAll}
 use Rattle.rules.specs.Numbers.{joined, methodSites, allSites, typingRule, methodReads, allReads, settingRule}
-use Rattle.laws.specs.Maps.{length-tabulate, getD-tabulate, tabulate-same, map-tabulate}
+use Rattle.laws.specs.Maps.{length-tabulate, getD-tabulate, tabulate-same, map-tabulate, getD-map}
 use Rattle.laws.specs.Postorder.{postorder, postorderAll, parts, all-postorder}
 
 mutual
@@ -70,3 +70,53 @@ mutual
   pub readsAll-parts : (es : Exprs) (I : Vars) → length (readsAll es I) ≡ length (postorderAll (λ t. t) es)
   readsAll-parts nil I = refl
   readsAll-parts (cons e es) I = simp (length-append, reads-parts e I, readsAll-parts es (after e I))
+
+-- lists one after the other
+map-joined : {A B : Type 0} (f : A → B) (ls : List (List A)) → map f (joined ls) ≡ joined (map (map f) ls)
+unfolding joined
+map-joined f [] = refl
+map-joined f (l ∷ ls) = rw (map-append, map-joined f ls)
+
+length-joined : {A B : Type 0} (n : ℕ) (f : ℕ → List A) (g : ℕ → List B) → ((i : ℕ) → length (f i) ≡ length (g i))
+    → length (joined (tabulate n f)) ≡ length (joined (tabulate n g))
+unfolding joined tabulate
+length-joined zero f g h = refl
+length-joined (suc n) f g h =
+    simp (length-append, h 0, length-joined n (λ i. f (suc i)) (λ i. g (suc i)) (λ i. h (suc i)))
+
+-- An image whose nodes and bodies hold has a site and a read for each node.
+module _ (ws : List ℕ) (hold : (n : ℕ) → n < nodeCount ws → nodeHolds ws n ≡ true) (filled : (i : ℕ) → i ≤ methodCount ws → filledHolds ws i ≡ true) where
+  pub allSites-trees : map (λ s. s .tree) (allSites ws) ≡ tabulate (nodeCount ws) (tree ws)
+  unfolding allSites methodSites
+  allSites-trees = simp (map-append, map-joined, map-tabulate, sites-parts) (all-postorder ws hold filled (λ t. t))
+
+  pub length-allSites : length (allSites ws) ≡ nodeCount ws
+  length-allSites = sym (length-map (allSites ws) (λ s. s .tree)) ∙ ap length allSites-trees ∙ length-tabulate (nodeCount ws) (tree ws)
+
+  pub site-tree : (n : ℕ) (z : Site) → n < nodeCount ws → getD (allSites ws) n z .tree ≡ tree ws n
+  site-tree n z l =
+      sym (List·getD-map (λ s. s .tree) (allSites ws) n z)
+      ∙ ap (λ (l : List Expr). getD l n (z .tree)) allSites-trees
+      ∙ getD-tabulate (nodeCount ws) (tree ws) n (z .tree) l
+
+  pub length-allReads : length (allReads ws) ≡ nodeCount ws
+  unfolding allReads methodReads
+  length-allReads =
+      length-append (joined (tabulate (methodCount ws) (methodReads ws))) (reads (main ws) (between 1 (inputCount ws)))
+      ∙ rw (length-joined (methodCount ws) (methodReads ws) (λ i. parts (methodAt ws i .body)) (λ i. reads-parts _ _), reads-parts (main ws) (between 1 (inputCount ws)))
+      (sym (length-append (joined (tabulate (methodCount ws) (λ i. parts (methodAt ws i .body)))) (parts (main ws))))
+      ∙ ap length (all-postorder ws hold filled (λ t. t))
+      ∙ length-tabulate (nodeCount ws) (tree ws)
+
+  -- 12 and 13 are asked at each node
+  pub typing-places : typingRule ws .places ≡ nodeCount ws
+  unfolding typingRule tested
+  typing-places = length-map (allSites ws) (siteTyped (program ws)) ∙ length-allSites
+
+  pub setting-places : settingRule ws .places ≡ nodeCount ws
+  unfolding settingRule tested
+  setting-places = length-allReads
+
+  pub typing-holds : (n : ℕ) (z : Site) → n < nodeCount ws → typingRule ws .holds n ≡ siteTyped (program ws) (getD (allSites ws) n z)
+  unfolding typingRule tested
+  typing-holds n z l = getD-map (siteTyped (program ws)) (allSites ws) n true z (rw length-allSites l)
