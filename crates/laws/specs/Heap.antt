@@ -10,7 +10,7 @@ use native.Mathlib.Decide.{ℕ-discrete}
 use lib.Dec.{eqb, leb, ltb, eqb·suc-zero}
 use lib.ListN.{length, getD, set, take, drop, replicate, length-append, length-set, length-map, length-replicate, getD-replicate, List·getD-append, List·getD-eq-default}
 use lib.Seq.{length-take-le, drop-append-le, drop-drop, set-getD, sets, sets-eq, getD-append-add, drop-at, take-append-add, drop-append-add, set-append-left, getD-set-same, getD-set-other, set-out, ext-getD}
-use borrow.Author.Tests.{eqb-true, leb-true, ltb-true, ltb-false, lt-ltb, le-ltb}
+use borrow.Author.Tests.{eqb-true, leb-true, le-leb, ltb-true, ltb-false}
 use Rattle.order.specs.declared.Found.{Found}
 use Rattle.order.specs.declared.Found.the-variants.{At, Nowhere}
 use Rattle.order.specs.Rules.{scan}
@@ -497,6 +497,51 @@ module _ (P : Program) (classes : ℕ) where
       (ap (λ (l : List ℕ). set l (slotWords * a + 1 + i) (wordOf v)) (sym (words-heap P classes hs w))
       ∙ sym (words-put h (shaped-fits h s) a c vs i v e l))
       ∙ heap-words (set h a (obj c (set vs i v))) (shaped-put h s a c vs i v e p)
+
+  pub heap-new : (hs : List ℕ) → Words P classes hs → (a c : ℕ) → a < length (heapOf P hs) → look (heapOf P hs) a ≡ free → c < classes
+      → heapOf P (sets hs (slotWords * a) (suc c ∷ map wordOf (defaults (hasFields P c)))) ≡ set (heapOf P hs) a (obj c (defaults (hasFields P c)))
+  heap-new hs w a c l e k =
+      let s = heap-shaped hs w in
+      let h = heapOf P hs in
+      let vs = defaults (hasFields P c) in
+      ap (heapOf P)
+      (ap (λ (l : List ℕ). sets l (slotWords * a) (suc c ∷ map wordOf vs)) (sym (words-heap P classes hs w))
+      ∙ sym (words-new h (shaped-fits h s) a c vs l e (rw length-defaults (w .few c k))))
+      ∙ heap-words (set h a (obj c vs)) (shaped-new h s a c k (w .few c k))
+
+  -- the words of a shaped heap hold
+  slot-shaped : (r : Slot) → SlotShaped P classes r → (k : ℕ) → k < slotWords
+      → slotWordHolds P classes (getD (slotWordsOf r) 0 0) k (getD (slotWordsOf r) k 0) ≡ true
+  unfolding slotWordHolds
+  slot-shaped free o zero l = rw (slot-free 0 l) (le-leb 0 classes (omega arith))
+  slot-shaped free o (suc j) l = rw (slot-free 0 (omega arith), slot-free (suc j) l)
+  slot-shaped (obj c vs) o zero l = rw slot-class (le-leb _ _ (o .class))
+  slot-shaped (obj c vs) o (suc j) l = rw slot-class (go (ltb j (length (hasFields P c))) refl)
+    where
+      go : (t : Bool) → ltb j (length (hasFields P c)) ≡ t
+          → cond t (isIs (valueOf (getD (slotWordsOf (obj c vs)) (suc j) 0))) (eqb (getD (slotWordsOf (obj c vs)) (suc j) 0) 0) ≡ true
+      go true t =
+          rw (slot-field c vs j Value.Unit (rw (o .count) (ltb-true _ _ t)), encode-decode (getD vs j Value.Unit) (o .proper j))
+      go false t = rw (slot-rest c vs j (rw (o .count) (ltb-false _ _ t)) l)
+
+  pub shaped-words : (h : Heap) → Shaped P classes h → ((c : ℕ) → c < classes → length (hasFields P c) ≤ mostFieldsAbove) → Words P classes (wordsOf h)
+  shaped-words h s few =
+      let f = shaped-fits h s in
+      record {
+        few = few;
+        whole = rw (length-words h f) (omega arith);
+        holds =
+            λ i l.
+            let a = i / slotWords in
+            let k = i % slotWords in
+            let e : i ≡ slotWords * a + k = omega arith in
+            let z : slotWords * a ≡ slotWords * a + 0 = omega arith in
+            let p : getD (wordsOf h) (slotWords * a) 0 ≡ getD (slotWordsOf (look h a)) 0 0 =
+                ap (λ (j : ℕ). getD (wordsOf h) j 0) z ∙ word-at h f a 0 (omega arith) in
+            let q : getD (wordsOf h) i 0 ≡ getD (slotWordsOf (look h a)) k 0 =
+                ap (λ (j : ℕ). getD (wordsOf h) j 0) e ∙ word-at h f a k (omega arith) in
+            rw (p, q) (slot-shaped (look h a) (s .at a) k (omega arith));
+      }
 
 -- Free slots. The lowest one is free, and those below it are not.
 pub record Room (h : Heap) (a : ℕ) : Type 0 where

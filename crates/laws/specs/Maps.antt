@@ -6,7 +6,7 @@ use mathlib.Core.List.{List, [], _∷_, _++_, map}
 use Prim.Native.Nat.{ℕ, zero, suc, _+_, _-_, _≤_, _<_}
 use native.Mathlib.Omega.{arith}
 use lib.Dec.{eqb}
-use lib.ListN.{length, getD, take, drop}
+use lib.ListN.{length, getD, drop, drop-of-length-le}
 use lib.Seq.{drop-cons}
 use borrow.Author.Tests.{eqb-true, eq-eqb, ne-eqb}
 use Rattle.rules.specs.Maps.{upd, tabulate, from}
@@ -89,6 +89,9 @@ module _ {ℓ} {A : Type ℓ} where
   pub drop-tabulate : (n : ℕ) (f : ℕ → A) (i : ℕ) → i < n → drop i (tabulate n f) ≡ f i ∷ drop (suc i) (tabulate n f)
   drop-tabulate n f i h =
       rw (drop-cons (tabulate n f) i (f i) (rw length-tabulate h), getD-tabulate n f i (f i) h)
+
+  pub drop-tabulate-all : (n : ℕ) (f : ℕ → A) (i : ℕ) → n ≤ i → drop i (tabulate n f) ≡ []
+  drop-tabulate-all n f i h = drop-of-length-le (tabulate n f) {i = i} (rw length-tabulate h)
 
   -- maps that agree below n
   pub tabulate-same : (n : ℕ) (f g : ℕ → A) → ((i : ℕ) → i < n → f i ≡ g i) → tabulate n f ≡ tabulate n g
