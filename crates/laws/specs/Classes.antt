@@ -2,7 +2,7 @@
 -- and the index of a field in a class and below it.
 use mathlib.Core.Path.{_≡_, refl, sym, _∙_, ap}
 use mathlib.Core.Bool.{Bool, true, false, cond, _&&_, _||_}
-use mathlib.Core.Option.{Option, none, some}
+use mathlib.Core.Option.{none, some}
 use mathlib.Core.List.{List, [], _∷_, _++_, append-assoc, append-nil}
 use mathlib.Core.Logic.{_⊎_, inl, inr, ⊎-elim}
 use Prim.Native.Nat.{ℕ, zero, suc, _+_, _-_, _≤_, _<_}
@@ -126,7 +126,8 @@ module _ (P : Program) where
     pub subclass-cases : (c d : ℕ) → subclass P (suc c) d ≡ true → (suc c ≡ d) ⊎ (subclass P (super P (suc c)) d ≡ true)
     subclass-cases c d h = go (eqb (suc c) d) refl (rw subclass-suc at h)
       where
-        go : (t : Bool) → eqb (suc c) d ≡ t → (t || subclass P (super P (suc c)) d) ≡ true → (suc c ≡ d) ⊎ (subclass P (super P (suc c)) d ≡ true)
+        go : (t : Bool) → eqb (suc c) d ≡ t → (t || subclass P (super P (suc c)) d) ≡ true
+            → (suc c ≡ d) ⊎ (subclass P (super P (suc c)) d ≡ true)
         go true e q = inl (eqb-true _ _ e)
         go false e q = inr q
 
@@ -148,11 +149,13 @@ module _ (P : Program) where
         c
 
     -- a class's own declaration first, else its superclass's
-    pub seesField-suc : (c f : ℕ) → seesField P (suc c) f ≡ orElse (declaredIn P (P .fields) (suc c) f) (seesField P (super P (suc c)) f)
+    pub seesField-suc : (c f : ℕ)
+        → seesField P (suc c) f ≡ orElse (declaredIn P (P .fields) (suc c) f) (seesField P (super P (suc c)) f)
     unfolding seesField seesFieldIn
     seesField-suc c f = rw above-suc
 
-    pub seesMethod-suc : (c m : ℕ) → seesMethod P (suc c) m ≡ orElse (methodIn P (P .methods) (suc c) m) (seesMethod P (super P (suc c)) m)
+    pub seesMethod-suc : (c m : ℕ)
+        → seesMethod P (suc c) m ≡ orElse (methodIn P (P .methods) (suc c) m) (seesMethod P (super P (suc c)) m)
     unfolding seesMethod seesMethodIn
     seesMethod-suc c m = rw above-suc
 
@@ -231,7 +234,8 @@ indexFrom-left (r ∷ L) R d f i k h = go (eqb (r .owner) d && eqb (r .name) f) 
     go false q ih = ih q
 
 -- the index of a field in a class is its index in each subclass
-pub fieldIndex-subclass : (P : Program) → Lower P → (c d o f i : ℕ) → subclass P d c ≡ true → fieldIndex (hasFields P c) o f ≡ some i → fieldIndex (hasFields P d) o f ≡ some i
+pub fieldIndex-subclass : (P : Program) → Lower P → (c d o f i : ℕ) → subclass P d c ≡ true
+    → fieldIndex (hasFields P c) o f ≡ some i → fieldIndex (hasFields P d) o f ≡ some i
 unfolding fieldIndex
 fieldIndex-subclass P low c d o f i s h =
     let r = hasFields-prefix P low c d s in

@@ -1,9 +1,8 @@
 -- Frames: the path from the root to the active place, and what a step there is for the whole.
-use mathlib.Core.Path.{_≡_, refl, sym, _∙_, ap}
-use mathlib.Core.Bool.{Bool, true, false}
+use mathlib.Core.Path.{_≡_, refl}
 use mathlib.Core.Option.{Option, none, some}
 use mathlib.Core.List.{List, [], _∷_, _++_, map}
-use Prim.Native.Nat.{ℕ, zero, suc, _+_}
+use Prim.Native.Nat.{ℕ, suc, _+_}
 use native.Mathlib.Omega.{arith}
 use lib.ListN.{length}
 use borrow.Author.Tests.{eq-eqb}
@@ -101,7 +100,8 @@ node (throwF p t) = p
 node (tryF p c x b) = p
 
 module _ (P : Program) where
-  operands-next : (vs : List (ℕ × Value)) (e e' : Expr) (es : Exprs) (h h' : Heap) (s s' : Store) (d q : ℕ) → step P e h s ≡ Out.next d q h' s' e'
+  operands-next : (vs : List (ℕ × Value)) (e e' : Expr) (es : Exprs) (h h' : Heap) (s s' : Store) (d q : ℕ)
+      → step P e h s ≡ Out.next d q h' s' e'
       → steps P (operandsOf vs e es) h s ≡ Outs.next d q h' s' (operandsOf vs e' es)
   unfolding step consOut tailOut operandsOf
   operands-next [] e e' es h h' s s' d q i = rw i
@@ -217,7 +217,9 @@ module _ (P : Program) where
   nexts-in [] e e' h h' s s' d q i = let z : 0 + d ≡ d = omega arith in rw z i
   nexts-in (F ∷ Fs) e e' h h' s s' d q i =
       let z : suc (length Fs) + d ≡ length Fs + suc d = omega arith in
-      rw z (nexts-in Fs (plug block F s e) (plug blocked F s' e') h h' (outer F s) (outer F s') (suc d) q (next-in P F e e' h h' s s' d q i))
+      rw z
+      (nexts-in Fs (plug block F s e) (plug blocked F s' e') h h' (outer F s) (outer F s') (suc d) q
+      (next-in P F e e' h h' s s' d q i))
 
   pub stucks-in : (Fs : List Frame) (e : Expr) (h : Heap) (s : Store) (d q : ℕ) → step P e h s ≡ Out.stuck d q
       → step P (plugs block Fs s e) h (outers Fs s) ≡ Out.stuck (length Fs + d) q
@@ -248,7 +250,8 @@ blocked-none p x t e h = go (view e) h
     go (isVal v) q = refl
     go other q = refl
 
-pub blocked-begun : (p x : ℕ) (t : Ty) (q r k : ℕ) (v : Value) (b : Expr) → blocked p x t none (seq q (assign r x (val k v)) b) ≡ block p x t (some v) b
+pub blocked-begun : (p x : ℕ) (t : Ty) (q r k : ℕ) (v : Value) (b : Expr)
+    → blocked p x t none (seq q (assign r x (val k v)) b) ≡ block p x t (some v) b
 unfolding blocked settle remember assigned valueIn view
 blocked-begun p x t q r k v b = rw (eq-eqb x x refl)
 
@@ -263,7 +266,8 @@ plain-plugs [] s e h = refl
 plain-plugs (F ∷ Fs) s e h = rw (h .0) (plain-plugs Fs (outer F s) (plug block F s e) (h .1))
 
 -- the three frames around a value that its block remembers are one, and x is set inside
-pub plugs-begun : (Fs : List Frame) (p x : ℕ) (t : Ty) (old : Option Value) (q r k : ℕ) (v : Value) (b : Expr) (s : Store) → s x ≡ none
+pub plugs-begun : (Fs : List Frame) (p x : ℕ) (t : Ty) (old : Option Value) (q r k : ℕ) (v : Value) (b : Expr) (s : Store)
+    → s x ≡ none
     → plugs blocked (assignF r x ∷ seqF q b ∷ blockF p x t old ∷ Fs) s (val k v)
     ≡ plugs blocked (blockF p x t old ∷ Fs) (upd s x (some v)) b
 unfolding plugs plug outer
@@ -334,7 +338,8 @@ module _ (P : Program) (p : ℕ) (h : Heap) (s : Store) where
   unfolding step under unders
   step-call m q v vs r w = rw (operands-values P vs r w h s)
 
-  pub step-block : (x : ℕ) (t : Ty) (mv : Option Value) (q : ℕ) (v : Value) → step P (block p x t mv (val q v)) h s ≡ Out.next 0 p h s (val q v)
+  pub step-block : (x : ℕ) (t : Ty) (mv : Option Value) (q : ℕ) (v : Value)
+      → step P (block p x t mv (val q v)) h s ≡ Out.next 0 p h s (val q v)
   unfolding step blockOut
   step-block x t mv q v = refl
 

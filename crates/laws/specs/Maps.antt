@@ -1,7 +1,7 @@
 -- Laws of maps and their tables: `upd`, `tabulate`, `from`, and stretches of a table.
 use mathlib.Core.Path.{_≡_, refl, sym, _∙_, ap, fun-ext}
 use mathlib.Core.Bool.{Bool, true, false, cond}
-use mathlib.Core.Option.{Option, none, some}
+use mathlib.Core.Option.{none, some}
 use mathlib.Core.List.{List, [], _∷_, _++_, map}
 use Prim.Native.Nat.{ℕ, zero, suc, _+_, _-_, _≤_, _<_}
 use native.Mathlib.Omega.{arith}
@@ -48,7 +48,8 @@ module _ {ℓ} {A : Type ℓ} where
       go y false e = refl
 
 -- Two maps under a relation: updated alike,
-pub upd-rel : {A B : Type 0} (R : A → B → Type 0) (f : ℕ → A) (g : ℕ → B) (x : ℕ) {a : A} {b : B} (y : ℕ) → R a b → R (f y) (g y) → R (upd f x a y) (upd g x b y)
+pub upd-rel : {A B : Type 0} (R : A → B → Type 0) (f : ℕ → A) (g : ℕ → B) (x : ℕ) {a : A} {b : B} (y : ℕ) → R a b
+    → R (f y) (g y) → R (upd f x a y) (upd g x b y)
 unfolding upd
 upd-rel R f g x {a} {b} y p q = go (eqb x y)
   where
@@ -57,7 +58,8 @@ upd-rel R f g x {a} {b} y p q = go (eqb x y)
     go false = q
 
 -- one of them updated in keeping with the other,
-pub upd-keep : {A B : Type 0} (R : A → B → Type 0) (f : ℕ → A) (g : ℕ → B) (x : ℕ) {a : A} (y : ℕ) → R a (g x) → R (f y) (g y) → R (upd f x a y) (g y)
+pub upd-keep : {A B : Type 0} (R : A → B → Type 0) (f : ℕ → A) (g : ℕ → B) (x : ℕ) {a : A} (y : ℕ) → R a (g x)
+    → R (f y) (g y) → R (upd f x a y) (g y)
 unfolding upd
 upd-keep R f g x {a} y p q = go (eqb x y) refl
   where
@@ -66,7 +68,8 @@ upd-keep R f g x {a} y p q = go (eqb x y) refl
     go false e = q
 
 -- and a place given back what it had.
-pub restore-rel : {A B : Type 0} (R : A → B → Type 0) (f h : ℕ → A) (g : ℕ → B) (x y : ℕ) (b : B) → R (h y) (upd g x b y) → R (f y) (g y) → R (upd h x (f x) y) (g y)
+pub restore-rel : {A B : Type 0} (R : A → B → Type 0) (f h : ℕ → A) (g : ℕ → B) (x y : ℕ) (b : B) → R (h y) (upd g x b y)
+    → R (f y) (g y) → R (upd h x (f x) y) (g y)
 unfolding upd
 restore-rel R f h g x y b p q = go (eqb x y) refl p
   where
@@ -128,7 +131,9 @@ module _ {ℓ} {A : Type ℓ} where
   from-at x (a ∷ l) zero d h = let e : x + 0 ≡ x = omega arith in rw e (upd-same (from (suc x) l) x (some a))
   from-at x (a ∷ l) (suc i) d h =
       let e : x + suc i ≡ suc x + i = omega arith in
-      upd-other (from (suc x) l) x (some a) (x + suc i) (λ q. omega arith) ∙ ap (from (suc x) l) e ∙ from-at (suc x) l i d (omega arith)
+      upd-other (from (suc x) l) x (some a) (x + suc i) (λ q. omega arith)
+      ∙ ap (from (suc x) l) e
+      ∙ from-at (suc x) l i d (omega arith)
 
   pub from-below : (x : ℕ) (l : List A) (y : ℕ) → y < x → from x l y ≡ none
   unfolding from
@@ -143,18 +148,21 @@ module _ {ℓ} {A : Type ℓ} where
       upd-other (from (suc x) l) x (some a) y (λ q. omega arith) ∙ from-beyond (suc x) l y (omega arith)
 
 -- what holds of every value of a map holds all over its table
-pub tabulate-all {ℓ} : {A : Type ℓ} (Q : A → Type 0) (n : ℕ) (f : ℕ → A) (i : ℕ) (d : A) → ((j : ℕ) → Q (f j)) → Q d → Q (getD (tabulate n f) i d)
+pub tabulate-all {ℓ} : {A : Type ℓ} (Q : A → Type 0) (n : ℕ) (f : ℕ → A) (i : ℕ) (d : A) → ((j : ℕ) → Q (f j)) → Q d
+    → Q (getD (tabulate n f) i d)
 unfolding tabulate
 tabulate-all Q zero f i d h q = q
 tabulate-all Q (suc n) f zero d h q = h 0
 tabulate-all Q (suc n) f (suc i) d h q = tabulate-all Q n (λ j. f (suc j)) i d (λ j. h (suc j)) q
 
-pub map-tabulate {ℓ κ} : {A : Type ℓ} {B : Type κ} (g : A → B) (n : ℕ) (f : ℕ → A) → map g (tabulate n f) ≡ tabulate n (λ i. g (f i))
+pub map-tabulate {ℓ κ} : {A : Type ℓ} {B : Type κ} (g : A → B) (n : ℕ) (f : ℕ → A)
+    → map g (tabulate n f) ≡ tabulate n (λ i. g (f i))
 unfolding tabulate
 map-tabulate g zero f = refl
 map-tabulate g (suc n) f = ap (g (f 0) ∷_) (map-tabulate g n (λ i. f (suc i)))
 
-pub getD-map {ℓ κ} : {A : Type ℓ} {B : Type κ} (g : A → B) (l : List A) (i : ℕ) (b : B) (a : A) → i < length l → getD (map g l) i b ≡ g (getD l i a)
+pub getD-map {ℓ κ} : {A : Type ℓ} {B : Type κ} (g : A → B) (l : List A) (i : ℕ) (b : B) (a : A) → i < length l
+    → getD (map g l) i b ≡ g (getD l i a)
 getD-map g [] i b a h = absurd (omega arith)
 getD-map g (x ∷ l) zero b a h = refl
 getD-map g (x ∷ l) (suc i) b a h = getD-map g l i b a (omega arith)
@@ -187,8 +195,8 @@ module _ {ℓ} {A : Type ℓ} (f : ℕ → A) where
   stretch-append b m e h k =
       let p : m - b + (e - m) ≡ e - b = omega arith in
       let q =
-          tabulate-same (e - m) (λ i. f (m + i)) (λ i. f (b + (m - b + i)))
-          (λ i l. let z : m + i ≡ b + (m - b + i) = omega arith in ap f z) in
+      tabulate-same (e - m) (λ i. f (m + i)) (λ i. f (b + (m - b + i)))
+      (λ i l. let z : m + i ≡ b + (m - b + i) = omega arith in ap f z) in
       rw (q, ← p) (tabulate-append (m - b) (e - m) (λ i. f (b + i)))
 
   pub stretch-last : (b n : ℕ) → b ≤ n → stretch f b (suc n) ≡ stretch f b n ++ (f n ∷ [])

@@ -1,6 +1,6 @@
 -- Laws of the order of nodes: a tree's nodes stand one after the other, and the bodies and main fill the table.
 use mathlib.Core.Path.{_≡_, refl, sym, _∙_, ap}
-use mathlib.Core.Bool.{Bool, true, false, _&&_}
+use mathlib.Core.Bool.{true, _&&_}
 use mathlib.Core.List.{List, [], _∷_, _++_, append-assoc}
 use Prim.Native.Nat.{ℕ, zero, suc, _+_, _-_, _≤_, _<_}
 use native.Mathlib.Omega.{arith}
@@ -18,6 +18,13 @@ use Rattle.rules.specs.Program.{methodAt, main}
 use Rattle.rules.specs.Numbers.{joined}
 use Rattle.laws.specs.Maps.{tabulate-same, stretch, stretch-from, stretch-zero, stretch-none, stretch-append, stretch-last, stretch-same, rising-le, joined-stretches}
 use Rattle.laws.specs.Trees.{begins, begins-le, operandCount, operand-end, operand-below, operand-spans, node-spans, tree-node, known}
+
+-- 8 and 9: every node holds, and every body
+abbrev pub NodesHold : List ℕ → Type 0
+NodesHold ws = (n : ℕ) → n < nodeCount ws → nodeHolds ws n ≡ true
+
+abbrev pub BodiesHold : List ℕ → Type 0
+BodiesHold ws = (i : ℕ) → i ≤ methodCount ws → filledHolds ws i ≡ true
 
 -- the place of a tree: its own node
 unfoldable pub root : Expr → ℕ
@@ -161,7 +168,7 @@ module _ (ws : List ℕ) where
         ∙ sym (stretch-last _ (begins ws n k) n (begins-le ws n k))
         ∙ rw b
 
-    pub tree-postorder : ((n : ℕ) → n < nodeCount ws → nodeHolds ws n ≡ true) → (n : ℕ) → n < nodeCount ws
+    pub tree-postorder : NodesHold ws → (n : ℕ) → n < nodeCount ws
         → postorder at (tree ws n) ≡ stretch (λ i. at (tree ws i)) (suc n - nodeWord ws n 1) (suc n)
     tree-postorder hold n l = go (suc n) n (omega arith) l
       where
@@ -170,7 +177,7 @@ module _ (ws : List ℕ) where
         go (suc k) n h l = node-filled n (hold n l) (λ m q. go k m (omega arith) (omega arith))
 
   -- the places of a tree are those from its beginning to its own
-  pub tree-places : ((n : ℕ) → n < nodeCount ws → nodeHolds ws n ≡ true) → (n : ℕ) → n < nodeCount ws
+  pub tree-places : NodesHold ws → (n : ℕ) → n < nodeCount ws
       → places (tree ws n) ≡ tabulate (nodeWord ws n 1) (λ i. suc n - nodeWord ws n 1 + i)
   tree-places hold n l =
       let b = suc n - nodeWord ws n 1 in
@@ -188,7 +195,8 @@ module _ (ws : List ℕ) where
       let u = eqb (b + nodeWord ws n 1) (suc n) in
       (ltb-true _ _ (and-left t u h), eqb-true _ _ (and-right t u h))
 
-  pub method-filled : (i : ℕ) → i < methodCount ws → filledHolds ws i ≡ true → bodyHolds ws (bodyStart ws i) (methodWord ws i 5) ≡ true
+  pub method-filled : (i : ℕ) → i < methodCount ws → filledHolds ws i ≡ true
+      → bodyHolds ws (bodyStart ws i) (methodWord ws i 5) ≡ true
   unfolding filledHolds
   method-filled i l h = rw (lt-ltb i (methodCount ws) l) at h
 
@@ -207,7 +215,7 @@ module _ (ws : List ℕ) where
   start-zero = refl
 
   -- An image whose nodes and bodies hold.
-  module _ (hold : (n : ℕ) → n < nodeCount ws → nodeHolds ws n ≡ true) (filled : (i : ℕ) → i ≤ methodCount ws → filledHolds ws i ≡ true) where
+  module _ (hold : NodesHold ws) (filled : BodiesHold ws) where
     start-le : (i : ℕ) → i < methodCount ws → bodyStart ws i ≤ bodyStart ws (suc i)
     unfolding bodyStart
     start-le i l = omega (arith, body-holds (bodyStart ws i) (methodWord ws i 5) (method-filled i l (filled i (omega arith))) .1)
@@ -238,15 +246,19 @@ module _ (ws : List ℕ) where
       all-postorder =
           let m = methodCount ws in
           let g : ℕ → A = λ j. at (tree ws j) in
-          let b = tabulate-same m (λ i. postorder at (methodAt ws i .body)) (λ i. stretch g (bodyStart ws i) (bodyStart ws (suc i))) body-postorder in
+          let b =
+          tabulate-same m (λ i. postorder at (methodAt ws i .body)) (λ i. stretch g (bodyStart ws i) (bodyStart ws (suc i)))
+          body-postorder in
           let f = main-filled (filled m (omega arith)) in
           let s = body-holds (bodyStart ws m) (mainNode ws) (f .0) in
           rw (b, joined-stretches g (bodyStart ws) m start-le, main-postorder)
-          (stretch-append g (bodyStart ws 0) (bodyStart ws m) (nodeCount ws) (rising-le (bodyStart ws) m start-le) (omega (arith, s .1, f .1))
+          (stretch-append g (bodyStart ws 0) (bodyStart ws m) (nodeCount ws) (rising-le (bodyStart ws) m start-le)
+          (omega (arith, s .1, f .1))
           ∙ ap (λ (b : ℕ). stretch g b (nodeCount ws)) start-zero
           ∙ stretch-zero g (nodeCount ws))
 
     -- every place once and in order
-    pub all-places : joined (tabulate (methodCount ws) (λ i. places (methodAt ws i .body))) ++ places (main ws) ≡ tabulate (nodeCount ws) (λ j. j)
+    pub all-places : joined (tabulate (methodCount ws) (λ i. places (methodAt ws i .body))) ++ places (main ws)
+        ≡ tabulate (nodeCount ws) (λ j. j)
     all-places =
         all-postorder root ∙ tabulate-same (nodeCount ws) (λ j. root (tree ws j)) (λ j. j) (λ j l. root-tree ws j (hold j l))

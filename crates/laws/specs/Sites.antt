@@ -1,25 +1,22 @@
 -- Laws of sites and reads: there is one for each node, in the order of the nodes.
 use mathlib.Core.Path.{_≡_, refl, sym, _∙_, ap}
-use mathlib.Core.Bool.{Bool, true, false}
+use mathlib.Core.Bool.{true, false}
 use mathlib.Core.Option.{Option, none, some}
-use mathlib.Core.List.{List, [], _∷_, _++_, map, map-append}
-use Prim.Native.Nat.{ℕ, zero, suc, _+_, _≤_, _<_}
-use native.Mathlib.Omega.{arith}
+use mathlib.Core.List.{List, [], _∷_, map, map-append}
+use Prim.Native.Nat.{ℕ, zero, suc, _≤_, _<_}
 use lib.ListN.{length, getD, length-append, length-map, List·getD-map}
 use Rattle.words.specs.declared.Ty.{Ty}
 use Rattle.words.specs.declared.Ty.the-variants.{Class}
 use Rattle.image.specs.Trailer.{methodCount, nodeCount, inputCount}
-use Rattle.image.specs.Nodes.{nodeHolds, filledHolds}
 use Rattle.image.specs.Layout.{tested}
-use Rattle.order.specs.Rules.{Rule}
 use Rattle.rules.specs.Maps.{upd, tabulate}
 use Rattle.rules.specs.Trees.{Expr, Exprs, new, cast, val, var, add, eq, assign, get, put, call, block, seq, ite, while, throw, try, nil, cons, tree}
-use Rattle.rules.specs.Program.{Env, program, methodAt, main, methodEnv, mainEnv}
+use Rattle.rules.specs.Program.{Env, program, methodAt, main}
 use Rattle.rules.specs.Setting.{Vars, between}
 use Rattle.rules.specs.Sites.{Site, sites, sitesAll, siteTyped, after, reads, readsAll}
 use Rattle.rules.specs.Numbers.{joined, methodSites, allSites, typingRule, methodReads, allReads, settingRule}
-use Rattle.laws.specs.Maps.{length-tabulate, getD-tabulate, tabulate-same, map-tabulate, getD-map}
-use Rattle.laws.specs.Postorder.{postorder, postorderAll, parts, all-postorder}
+use Rattle.laws.specs.Maps.{length-tabulate, getD-tabulate, map-tabulate, getD-map}
+use Rattle.laws.specs.Postorder.{NodesHold, BodiesHold, postorder, postorderAll, parts, all-postorder}
 
 mutual
   unfolding sites postorder
@@ -85,7 +82,7 @@ length-joined (suc n) f g h =
     simp (length-append, h 0, length-joined n (λ i. f (suc i)) (λ i. g (suc i)) (λ i. h (suc i)))
 
 -- An image whose nodes and bodies hold has a site and a read for each node.
-module _ (ws : List ℕ) (hold : (n : ℕ) → n < nodeCount ws → nodeHolds ws n ≡ true) (filled : (i : ℕ) → i ≤ methodCount ws → filledHolds ws i ≡ true) where
+module _ (ws : List ℕ) (hold : NodesHold ws) (filled : BodiesHold ws) where
   pub allSites-trees : map (λ s. s .tree) (allSites ws) ≡ tabulate (nodeCount ws) (tree ws)
   unfolding allSites methodSites
   allSites-trees = simp (map-append, map-joined, map-tabulate, sites-parts) (all-postorder ws hold filled (λ t. t))
@@ -102,9 +99,11 @@ module _ (ws : List ℕ) (hold : (n : ℕ) → n < nodeCount ws → nodeHolds ws
   pub length-allReads : length (allReads ws) ≡ nodeCount ws
   unfolding allReads methodReads
   length-allReads =
-      length-append (joined (tabulate (methodCount ws) (methodReads ws))) (reads (main ws) (between 1 (inputCount ws)))
-      ∙ rw (length-joined (methodCount ws) (methodReads ws) (λ i. parts (methodAt ws i .body)) (λ i. reads-parts _ _), reads-parts (main ws) (between 1 (inputCount ws)))
-      (sym (length-append (joined (tabulate (methodCount ws) (λ i. parts (methodAt ws i .body)))) (parts (main ws))))
+      let m = methodCount ws in
+      let b : ℕ → List Expr = λ i. parts (methodAt ws i .body) in
+      length-append (joined (tabulate m (methodReads ws))) (reads (main ws) (between 1 (inputCount ws)))
+      ∙ rw (length-joined m (methodReads ws) b (λ i. reads-parts _ _), reads-parts (main ws) (between 1 (inputCount ws)))
+      (sym (length-append (joined (tabulate m b)) (parts (main ws))))
       ∙ ap length (all-postorder ws hold filled (λ t. t))
       ∙ length-tabulate (nodeCount ws) (tree ws)
 
@@ -117,6 +116,7 @@ module _ (ws : List ℕ) (hold : (n : ℕ) → n < nodeCount ws → nodeHolds ws
   unfolding settingRule tested
   setting-places = length-allReads
 
-  pub typing-holds : (n : ℕ) (z : Site) → n < nodeCount ws → typingRule ws .holds n ≡ siteTyped (program ws) (getD (allSites ws) n z)
+  pub typing-holds : (n : ℕ) (z : Site) → n < nodeCount ws
+      → typingRule ws .holds n ≡ siteTyped (program ws) (getD (allSites ws) n z)
   unfolding typingRule tested
   typing-holds n z l = getD-map (siteTyped (program ws)) (allSites ws) n true z (rw length-allSites l)

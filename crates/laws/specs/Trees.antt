@@ -1,13 +1,13 @@
 -- Laws of trees: where a node's operands stand, and its tree by its kind.
-use mathlib.Core.Path.{_≡_, refl, sym, _∙_, ap}
-use mathlib.Core.Bool.{Bool, true, false, cond, _&&_}
-use mathlib.Core.Option.{Option, none, some}
-use mathlib.Core.List.{List, [], _∷_}
+use mathlib.Core.Path.{_≡_, refl, sym, _∙_}
+use mathlib.Core.Bool.{Bool, true, false, cond}
+use mathlib.Core.Option.{none, some}
+use mathlib.Core.List.{List}
 use Prim.Native.Nat.{ℕ, zero, suc, _+_, _-_, _≤_, _<_}
 use native.Mathlib.Omega.{arith}
 use native.Mathlib.Decide.{ℕ-discrete}
 use lib.Dec.{leb}
-use lib.ListN.{length, getD}
+use lib.ListN.{getD}
 use borrow.Author.Tests.{leb-true, eqb-true}
 use Rattle.words.specs.Types.{typeOf}
 use Rattle.words.specs.Value.{valueWith}
@@ -15,10 +15,10 @@ use Rattle.order.specs.declared.Found.{Found}
 use Rattle.order.specs.declared.Found.the-variants.{At, Nowhere}
 use Rattle.image.specs.declared.Kind.{Kind}
 use Rattle.image.specs.declared.Kind.the-variants.{New, Cast, Value as Literal, Var, Add, Eq, Assign, Get, Set, Call, Block, Seq, If, While, Throw, Try, Unknown}
-use Rattle.image.specs.Laws.{and-left, and-right}
+use Rattle.image.specs.Laws.{and-right}
 use Rattle.image.specs.Trailer.{classCount}
 use Rattle.image.specs.Nodes.{nodeWord, kindOf, namesHold, operands, reach, spans, sizeIs, nodeHolds}
-use Rattle.rules.specs.Trees.{Expr, Exprs, new, cast, val, var, add, eq, assign, get, put, call, block, seq, ite, while, throw, try, nil, cons, operand, nothing, written, arguments, nodeOf, nodeTree, forest, tree}
+use Rattle.rules.specs.Trees.{Expr, new, cast, val, var, add, eq, assign, get, put, call, block, seq, ite, while, throw, try, operand, nothing, written, arguments, nodeOf, nodeTree, forest, tree}
 
 -- a node takes no more operands than its kind has
 pub arguments-same : (o u : ℕ → Expr) (k : ℕ) → ((j : ℕ) → j < k → o j ≡ u j) → arguments o k ≡ arguments u k
@@ -26,7 +26,8 @@ unfolding arguments
 arguments-same o u zero h = refl
 arguments-same o u (suc k) h = rw (h k (omega arith), arguments-same o u k (λ j l. h j (omega arith)))
 
-pub node-same : (k : Kind) (p x y : ℕ) (o u : ℕ → Expr) → ((j : ℕ) → j < operands k y → o j ≡ u j) → nodeOf k p x y o ≡ nodeOf k p x y u
+pub node-same : (k : Kind) (p x y : ℕ) (o u : ℕ → Expr) → ((j : ℕ) → j < operands k y → o j ≡ u j)
+    → nodeOf k p x y o ≡ nodeOf k p x y u
 unfolding nodeOf operands
 node-same New p x y o u h = refl
 node-same Cast p x y o u h = rw (h 0 (omega arith))
@@ -53,7 +54,8 @@ module _ (ws : List ℕ) where
   forest-tree zero m h = absurd (omega arith)
   forest-tree (suc n) m h = go (ℕ-discrete m n) (λ l. forest-tree n m l)
     where
-      go : Dec (m ≡ n) → (m < n → getD (forest ws n) (n - suc m) nothing ≡ tree ws m) → getD (forest ws (suc n)) (suc n - suc m) nothing ≡ tree ws m
+      go : Dec (m ≡ n) → (m < n → getD (forest ws n) (n - suc m) nothing ≡ tree ws m)
+          → getD (forest ws (suc n)) (suc n - suc m) nothing ≡ tree ws m
       go (yes e) ih = let z : suc n - suc m ≡ 0 = omega arith in rw (z, e)
       go (no d) ih = let z : suc n - suc m ≡ suc (n - suc m) = omega arith in rw z (ih (omega arith))
 
@@ -81,7 +83,7 @@ module _ (ws : List ℕ) where
   pub record Reached (k e b : ℕ) : Type 0 where
     pub first : begins e k ≡ b
     pub spans : (j : ℕ) → j < k → begins e (suc j) + nodeWord ws (begins e j - 1) 1 ≡ begins e j
-    pub some : (j : ℕ) → j < k → 0 < begins e j
+    pub there : (j : ℕ) → j < k → 0 < begins e j
 
   begins-next : (e j : ℕ) → begins (suc e - nodeWord ws e 1) j ≡ begins (suc e) (suc j)
   begins-next e j = let p : suc e - 1 ≡ e = omega arith in rw p at (begins-on (suc e) j)
@@ -92,14 +94,14 @@ module _ (ws : List ℕ) where
   spans-on k e b s r zero l = let p : suc e - 1 ≡ e = omega arith in rw p (omega arith)
   spans-on k e b s r (suc j) l = rw (begins-next e j) at (r .spans j (omega arith))
 
-  some-on : (k e b : ℕ) → Reached k (suc e - nodeWord ws e 1) b → (j : ℕ) → j < suc k → 0 < begins (suc e) j
+  there-on : (k e b : ℕ) → Reached k (suc e - nodeWord ws e 1) b → (j : ℕ) → j < suc k → 0 < begins (suc e) j
   unfolding begins
-  some-on k e b r zero l = omega arith
-  some-on k e b r (suc j) l = rw begins-next at (r .some j (omega arith))
+  there-on k e b r zero l = omega arith
+  there-on k e b r (suc j) l = rw begins-next at (r .there j (omega arith))
 
   pub reached : (k e b : ℕ) → reach ws k e ≡ At b → Reached k e b
   unfolding reach begins
-  reached zero e b h = record { first = cc; spans = λ j l. absurd (omega arith); some = λ j l. absurd (omega arith) }
+  reached zero e b h = record { first = cc; spans = λ j l. absurd (omega arith); there = λ j l. absurd (omega arith) }
   reached (suc k) zero b h = absurd (let z : _≡_ {A = ℕ} 0 1 = cc in omega arith)
   reached (suc k) (suc e) b h = go (leb (nodeWord ws e 1) (suc e)) refl h (λ q. reached k (suc e - nodeWord ws e 1) b q)
     where
@@ -111,7 +113,7 @@ module _ (ws : List ℕ) where
           record {
             first = sym (begins-next e k) ∙ r .first;
             spans = spans-on k e b (leb-true _ _ t) r;
-            some = some-on k e b r;
+            there = there-on k e b r;
           }
       go false t q ih = absurd (let z : _≡_ {A = ℕ} 0 1 = cc in omega arith)
 
@@ -136,7 +138,7 @@ module _ (ws : List ℕ) where
 
   module _ (n : ℕ) (h : nodeHolds ws n ≡ true) where
     pub operand-end : (j : ℕ) → j < operandCount n → suc (operand ws n j) ≡ begins n j
-    operand-end j l = omega (arith, operand-begins n j, holds-reached n h .1 .some j l)
+    operand-end j l = omega (arith, operand-begins n j, holds-reached n h .1 .there j l)
 
     pub operand-below : (j : ℕ) → j < operandCount n → operand ws n j < n
     operand-below j l = omega (arith, operand-end j l, begins-le n j)
@@ -167,7 +169,8 @@ module _ (ws : List ℕ) where
     unfolding nodeTree nodeOf
     tree-cast e = tree-node ∙ rw e
 
-    pub tree-value : kindOf (nodeWord ws n 0) ≡ Literal → tree ws n ≡ val n (written (valueWith (nodeWord ws n 2) (nodeWord ws n 3)))
+    pub tree-value : kindOf (nodeWord ws n 0) ≡ Literal
+        → tree ws n ≡ val n (written (valueWith (nodeWord ws n 2) (nodeWord ws n 3)))
     unfolding nodeTree nodeOf
     tree-value e = tree-node ∙ rw e
 
@@ -191,15 +194,20 @@ module _ (ws : List ℕ) where
     unfolding nodeTree nodeOf
     tree-get e = tree-node ∙ rw e
 
-    pub tree-put : kindOf (nodeWord ws n 0) ≡ Set → tree ws n ≡ put n (nodeWord ws n 2) (nodeWord ws n 3) (tree ws (operand ws n 1)) (tree ws (operand ws n 0))
+    pub tree-put : kindOf (nodeWord ws n 0) ≡ Set
+        → tree ws n ≡ put n (nodeWord ws n 2) (nodeWord ws n 3) (tree ws (operand ws n 1)) (tree ws (operand ws n 0))
     unfolding nodeTree nodeOf
     tree-put e = tree-node ∙ rw e
 
-    pub tree-call : kindOf (nodeWord ws n 0) ≡ Call → tree ws n ≡ call n (nodeWord ws n 2) (tree ws (operand ws n (nodeWord ws n 3))) (arguments (λ j. tree ws (operand ws n j)) (nodeWord ws n 3))
+    pub tree-call : kindOf (nodeWord ws n 0) ≡ Call
+        → tree ws n
+        ≡ call n (nodeWord ws n 2) (tree ws (operand ws n (nodeWord ws n 3)))
+        (arguments (λ j. tree ws (operand ws n j)) (nodeWord ws n 3))
     unfolding nodeTree nodeOf
     tree-call e = tree-node ∙ rw e
 
-    pub tree-block : kindOf (nodeWord ws n 0) ≡ Block → tree ws n ≡ block n (nodeWord ws n 2) (typeOf (nodeWord ws n 3)) none (tree ws (operand ws n 0))
+    pub tree-block : kindOf (nodeWord ws n 0) ≡ Block
+        → tree ws n ≡ block n (nodeWord ws n 2) (typeOf (nodeWord ws n 3)) none (tree ws (operand ws n 0))
     unfolding nodeTree nodeOf
     tree-block e = tree-node ∙ rw e
 
@@ -207,7 +215,8 @@ module _ (ws : List ℕ) where
     unfolding nodeTree nodeOf
     tree-seq e = tree-node ∙ rw e
 
-    pub tree-if : kindOf (nodeWord ws n 0) ≡ If → tree ws n ≡ ite n (tree ws (operand ws n 2)) (tree ws (operand ws n 1)) (tree ws (operand ws n 0))
+    pub tree-if : kindOf (nodeWord ws n 0) ≡ If
+        → tree ws n ≡ ite n (tree ws (operand ws n 2)) (tree ws (operand ws n 1)) (tree ws (operand ws n 0))
     unfolding nodeTree nodeOf
     tree-if e = tree-node ∙ rw e
 
@@ -219,7 +228,8 @@ module _ (ws : List ℕ) where
     unfolding nodeTree nodeOf
     tree-throw e = tree-node ∙ rw e
 
-    pub tree-try : kindOf (nodeWord ws n 0) ≡ Try → tree ws n ≡ try n (nodeWord ws n 2) (nodeWord ws n 3) (tree ws (operand ws n 1)) (tree ws (operand ws n 0))
+    pub tree-try : kindOf (nodeWord ws n 0) ≡ Try
+        → tree ws n ≡ try n (nodeWord ws n 2) (nodeWord ws n 3) (tree ws (operand ws n 1)) (tree ws (operand ws n 0))
     unfolding nodeTree nodeOf
     tree-try e = tree-node ∙ rw e
 
