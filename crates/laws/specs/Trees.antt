@@ -153,6 +153,24 @@ module _ (ws : List ℕ) where
     pub node-spans : begins n (operandCount n) + nodeWord ws n 1 ≡ suc n
     node-spans = let r = holds-reached n h in rw (r .1 .first) (r .2)
 
+    pub node-size : (1 ≤ nodeWord ws n 1) × (nodeWord ws n 1 ≤ suc n)
+    node-size = (omega (arith, node-spans, begins-le n (operandCount n)), omega (arith, node-spans))
+
+    -- without `begins`: an operand begins after the one before it, and the first one where the node's tree does
+    pub operand-after : (j : ℕ) → suc j < operandCount n
+        → suc (operand ws n (suc j)) + nodeWord ws (operand ws n j) 1 ≡ suc (operand ws n j)
+    operand-after j l = rw (operand-end (suc j) l) (operand-spans j (omega arith))
+
+    pub operand-first : (j : ℕ) → suc j ≡ operandCount n
+        → suc n - nodeWord ws n 1 + nodeWord ws (operand ws n j) 1 ≡ suc (operand ws n j)
+    operand-first j e =
+        let b : suc n - nodeWord ws n 1 ≡ begins n (suc j) = rw e (omega (arith, node-spans)) in
+        rw b (operand-spans j (omega arith))
+
+    pub operand-none : operandCount n ≡ 0 → nodeWord ws n 1 ≡ 1
+    unfolding begins
+    operand-none e = let q : n + nodeWord ws n 1 ≡ suc n = rw e at node-spans in omega arith
+
     pub tree-node : tree ws n ≡ nodeTree ws n (tree ws)
     unfolding tree forest nodeTree
     tree-node =
