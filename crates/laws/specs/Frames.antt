@@ -82,25 +82,6 @@ outer (iteF p a b) s = s
 outer (throwF p t) s = s
 outer (tryF p c x b) s = s
 
--- the node of a frame
-unfoldable pub node : Frame → ℕ
-node (castF p c) = p
-node (addL p b) = p
-node (eqL p b) = p
-node (addR p q v) = p
-node (eqR p q v) = p
-node (assignF p x) = p
-node (getF p f d) = p
-node (putL p f d b) = p
-node (putR p f d q v) = p
-node (callL p m es) = p
-node (callR p m q v vs es) = p
-node (blockF p x t old) = p
-node (seqF p b) = p
-node (iteF p a b) = p
-node (throwF p t) = p
-node (tryF p c x b) = p
-
 module _ (P : Program) where
   operands-next : (vs : List (ℕ × Value)) (e e' : Expr) (es : Exprs) (h h' : Heap) (s s' : Store) (d q : ℕ)
       → step P e h s ≡ Out.next d q h' s' e'
