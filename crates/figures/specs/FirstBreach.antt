@@ -18,7 +18,7 @@ use Rattle.rules.specs.Program.{Program, Env}
 use Rattle.rules.specs.Classes.{orElse, subtype, seesField, seesMethod}
 use Rattle.rules.specs.Typing.{Res, ok, bad, _>>=_, need, found, literal, class, unremembered, typing, typings}
 use Rattle.rules.specs.Setting.{Vars, everyVar, setting, settings}
-use Rattle.rules.specs.Trees.{place, places, placesAll}
+use Rattle.rules.specs.Trees.{place, places, placesAll, postorder}
 use Rattle.rules.specs.Sites.{Site, sites, sitesAll, typedWithin, siteTyped, after, afterAll, reads, readsAll}
 use Rattle.figures.specs.Agreement.{clash, ok-inj}
 
@@ -135,7 +135,7 @@ abbrev pub sitePlace : Site → ℕ
 sitePlace s = place (s .tree)
 
 mutual
-  unfolding place places sites
+  unfolding place sites postorder
 
   pub sites-places : (e : Expr) (Γ : Env) (l : Option Ty) → map sitePlace (sites e Γ l) ≡ places e
   sites-places (new p c) Γ l = refl
@@ -219,7 +219,7 @@ reads-last {A} {r} {a} {bs} {ps} p s =
     go (some q) = refl
 
 mutual
-  unfolding setting after reads places
+  unfolding setting after reads postorder place
 
   reading : (e : Expr) (I : Vars) → Reads (setting e I) (after e I) (reads e I) (places e)
   reading (new p c) I = reads-none I p
@@ -454,7 +454,7 @@ module _ (P : Program) where
   both (bad q) s k i j = says-bad i _ _ (j .even)
 
   mutual
-    unfolding typing unremembered bounded sites siteTyped place places Written
+    unfolding typing unremembered bounded sites siteTyped place Written postorder
 
     says : (e : Expr) → Written e → (Γ : Env) (l : Option Ty)
         → Says (bounded P l (place e) (typing P e Γ)) (map (siteTyped P) (sites e Γ l)) (places e)

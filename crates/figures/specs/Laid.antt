@@ -18,7 +18,7 @@ use Rattle.image.specs.Trailer.{classCount}
 use Rattle.image.specs.Nodes.{nodeWord, kindOf, isClass, isLocal, namesHold, operands, reach, spans, sizeIs, nodeHolds}
 use Rattle.words.specs.declared.Ty.{Ty}
 use Rattle.rules.specs.Maps.{tabulate}
-use Rattle.rules.specs.Trees.{Expr, operand, nothing, arguments, nodeOf, nodeTree, forest, tree, places, placesAll, place}
+use Rattle.rules.specs.Trees.{Expr, operand, nothing, arguments, nodeOf, nodeTree, forest, tree, places, placesAll, place, postorder}
 use Rattle.rules.specs.Program.{Program, Env}
 use Rattle.rules.specs.Typing.{bad, ok, typing}
 use Rattle.rules.specs.Setting.{Vars, setting}
@@ -163,14 +163,14 @@ gather-last o zero = append-nil (places (o 0))
 gather-last o (suc k) = rw append-assoc (ap (λ l. places (o (suc k)) ++ l) (gather-last o k))
 
 gather-arguments : (o : ℕ → Expr) (k : ℕ) → placesAll (arguments o k) ≡ gather o k
-unfolding gather arguments places
+unfolding gather arguments postorder place
 gather-arguments o zero = refl
 gather-arguments o (suc k) = ap (λ l. places (o k) ++ l) (gather-arguments o k)
 
 -- a node's places: its operands', then its own
 gather-node : (k : Kind) (p x y : ℕ) (o : ℕ → Expr) (c : ℕ) → namesHold c k x y ≡ true
     → places (nodeOf k p x y o) ≡ gather o (operands k y) ++ (p ∷ [])
-unfolding gather nodeOf places operands namesHold
+unfolding gather nodeOf operands namesHold postorder place
 gather-node New p x y o c e = refl
 gather-node Cast p x y o c e = simp append-assoc
 gather-node Literal p x y o c e = refl

@@ -2,14 +2,14 @@
 -- and the index of a field in a class and below it.
 use mathlib.Core.Path.{_≡_, refl, sym, _∙_, ap}
 use mathlib.Core.Bool.{Bool, true, false, cond, _&&_, _||_}
-use mathlib.Core.Option.{Option, none, some}
+use mathlib.Core.Option.{none, some}
 use mathlib.Core.List.{List, [], _∷_, _++_, append-assoc, append-nil}
 use mathlib.Core.Logic.{_⊎_, inl, inr, ⊎-elim}
 use Prim.Native.Nat.{ℕ, zero, suc, _+_, _-_, _≤_, _<_}
 use native.Mathlib.Omega.{arith}
 use lib.Dec.{eqb, ltb}
 use lib.ListN.{length, getD, List·getD-eq-default}
-use borrow.Author.Tests.{eqb-true, eq-eqb, ltb-true, ltb-false, lt-ltb}
+use borrow.Author.Tests.{eqb-true, eq-eqb, ne-eqb, ltb-true, ltb-false}
 use Rattle.image.specs.Numbers.{firstUserClass}
 use Rattle.image.specs.Laws.{and-left, and-right}
 use Rattle.image.specs.Trailer.{classCount}
@@ -44,6 +44,11 @@ lower ws h c = go (ltb (suc c) (classCount ws)) refl
     go false e =
         let l : length (tabulate (classCount ws) (superclass ws)) ≤ suc c = rw length-tabulate (ltb-false _ _ e) in
         rw (List·getD-eq-default (tabulate (classCount ws) (superclass ws)) 0 l) (omega arith)
+
+-- a class's superclass is its word
+pub super-word : (ws : List ℕ) (c : ℕ) → c < classCount ws → super (program ws) c ≡ superclass ws c
+unfolding program
+super-word ws c l = getD-tabulate (classCount ws) (superclass ws) c 0 l
 
 module _ (P : Program) where
   pub above-zero : above P 0 ≡ 0 ∷ []
@@ -121,7 +126,8 @@ module _ (P : Program) where
     pub subclass-cases : (c d : ℕ) → subclass P (suc c) d ≡ true → (suc c ≡ d) ⊎ (subclass P (super P (suc c)) d ≡ true)
     subclass-cases c d h = go (eqb (suc c) d) refl (rw subclass-suc at h)
       where
-        go : (t : Bool) → eqb (suc c) d ≡ t → (t || subclass P (super P (suc c)) d) ≡ true → (suc c ≡ d) ⊎ (subclass P (super P (suc c)) d ≡ true)
+        go : (t : Bool) → eqb (suc c) d ≡ t → (t || subclass P (super P (suc c)) d) ≡ true
+            → (suc c ≡ d) ⊎ (subclass P (super P (suc c)) d ≡ true)
         go true e q = inl (eqb-true _ _ e)
         go false e q = inr q
 
@@ -143,11 +149,13 @@ module _ (P : Program) where
         c
 
     -- a class's own declaration first, else its superclass's
-    pub seesField-suc : (c f : ℕ) → seesField P (suc c) f ≡ orElse (declaredIn P (P .fields) (suc c) f) (seesField P (super P (suc c)) f)
+    pub seesField-suc : (c f : ℕ)
+        → seesField P (suc c) f ≡ orElse (declaredIn P (P .fields) (suc c) f) (seesField P (super P (suc c)) f)
     unfolding seesField seesFieldIn
     seesField-suc c f = rw above-suc
 
-    pub seesMethod-suc : (c m : ℕ) → seesMethod P (suc c) m ≡ orElse (methodIn P (P .methods) (suc c) m) (seesMethod P (super P (suc c)) m)
+    pub seesMethod-suc : (c m : ℕ)
+        → seesMethod P (suc c) m ≡ orElse (methodIn P (P .methods) (suc c) m) (seesMethod P (super P (suc c)) m)
     unfolding seesMethod seesMethodIn
     seesMethod-suc c m = rw above-suc
 
@@ -168,6 +176,51 @@ module _ (P : Program) where
         (r .0 ++ own P (P .fields) (suc d), rw (hasFields-suc, r .1, append-assoc)))
         (subclass-cases d c h))
 
+-- The same for a loop that goes up from c: it stops at c, at class 0, or goes on with the superclass.
+module _ (P : Program) where
+  pub subclass-here : (c d : ℕ) → c ≡ d → subclass P c d ≡ true
+  subclass-here c d e = rw (← e) (subclass-refl P c)
+
+  pub subclass-end : (c d : ℕ) → c ≡ 0 → (c ≡ d → ⊥) → subclass P c d ≡ false
+  subclass-end c d z n = go (subclass P 0 d) refl
+    where
+      go : (t : Bool) → subclass P 0 d ≡ t → subclass P c d ≡ false
+      go true e = absurd (n (z ∙ subclass-zero P d e))
+      go false e = rw z e
+
+  pub seesField-here : (c f : ℕ) (r : Field) → declaredIn P (P .fields) c f ≡ some r → seesField P c f ≡ some r
+  unfolding seesField seesFieldIn above chain
+  seesField-here zero f r e = rw e
+  seesField-here (suc c) f r e = rw e
+
+  pub seesField-end : (c f : ℕ) → c ≡ 0 → declaredIn P (P .fields) c f ≡ none → seesField P c f ≡ none
+  seesField-end c f z e = rw (z, seesField-zero P f, rw z at e)
+
+  pub seesMethod-here : (c m : ℕ) (r : Method) → methodIn P (P .methods) c m ≡ some r → seesMethod P c m ≡ some r
+  unfolding seesMethod seesMethodIn above chain
+  seesMethod-here zero m r e = rw e
+  seesMethod-here (suc c) m r e = rw e
+
+  pub seesMethod-end : (c m : ℕ) → c ≡ 0 → methodIn P (P .methods) c m ≡ none → seesMethod P c m ≡ none
+  seesMethod-end c m z e = rw (z, seesMethod-zero P m, rw z at e)
+
+  module _ (low : Lower P) where
+    pub subclass-on : (c d : ℕ) → 0 < c → (c ≡ d → ⊥) → subclass P c d ≡ subclass P (super P c) d
+    subclass-on zero d h n = absurd (omega arith)
+    subclass-on (suc c) d h n = subclass-suc P low c d ∙ rw (ne-eqb (suc c) d n)
+
+    pub seesField-on : (c f : ℕ) → 0 < c → declaredIn P (P .fields) c f ≡ none → seesField P c f ≡ seesField P (super P c) f
+    seesField-on zero f h e = absurd (omega arith)
+    seesField-on (suc c) f h e = seesField-suc P low c f ∙ rw e
+
+    pub seesMethod-on : (c m : ℕ) → 0 < c → methodIn P (P .methods) c m ≡ none → seesMethod P c m ≡ seesMethod P (super P c) m
+    seesMethod-on zero m h e = absurd (omega arith)
+    seesMethod-on (suc c) m h e = seesMethod-suc P low c m ∙ rw e
+
+    pub hasFields-on : (c : ℕ) → 0 < c → hasFields P c ≡ hasFields P (super P c) ++ own P (P .fields) c
+    hasFields-on zero h = absurd (omega arith)
+    hasFields-on (suc c) h = hasFields-suc P low c
+
 -- Fields that follow do not change an index.
 pub indexFrom-left : (L R : List Field) (d f i k : ℕ) → indexFrom L d f i ≡ some k → indexFrom (L ++ R) d f i ≡ some k
 unfolding indexFrom
@@ -181,7 +234,8 @@ indexFrom-left (r ∷ L) R d f i k h = go (eqb (r .owner) d && eqb (r .name) f) 
     go false q ih = ih q
 
 -- the index of a field in a class is its index in each subclass
-pub fieldIndex-subclass : (P : Program) → Lower P → (c d o f i : ℕ) → subclass P d c ≡ true → fieldIndex (hasFields P c) o f ≡ some i → fieldIndex (hasFields P d) o f ≡ some i
+pub fieldIndex-subclass : (P : Program) → Lower P → (c d o f i : ℕ) → subclass P d c ≡ true
+    → fieldIndex (hasFields P c) o f ≡ some i → fieldIndex (hasFields P d) o f ≡ some i
 unfolding fieldIndex
 fieldIndex-subclass P low c d o f i s h =
     let r = hasFields-prefix P low c d s in

@@ -1,10 +1,11 @@
 -- Frames: the path from the root to the active place, and what a step there is for the whole.
-use mathlib.Core.Path.{_≡_, refl, sym, _∙_, ap}
-use mathlib.Core.Bool.{Bool, true, false}
+use mathlib.Core.Path.{_≡_, refl}
+use mathlib.Core.Bool.{Bool, true, false, cond}
 use mathlib.Core.Option.{Option, none, some}
 use mathlib.Core.List.{List, [], _∷_, _++_, map}
-use Prim.Native.Nat.{ℕ, zero, suc, _+_}
+use Prim.Native.Nat.{ℕ, suc, _+_}
 use native.Mathlib.Omega.{arith}
+use lib.Dec.{eqb}
 use lib.ListN.{length}
 use borrow.Author.Tests.{eq-eqb}
 use Rattle.words.specs.declared.Value.{Value}
@@ -81,27 +82,9 @@ outer (iteF p a b) s = s
 outer (throwF p t) s = s
 outer (tryF p c x b) s = s
 
--- the node of a frame
-unfoldable pub node : Frame → ℕ
-node (castF p c) = p
-node (addL p b) = p
-node (eqL p b) = p
-node (addR p q v) = p
-node (eqR p q v) = p
-node (assignF p x) = p
-node (getF p f d) = p
-node (putL p f d b) = p
-node (putR p f d q v) = p
-node (callL p m es) = p
-node (callR p m q v vs es) = p
-node (blockF p x t old) = p
-node (seqF p b) = p
-node (iteF p a b) = p
-node (throwF p t) = p
-node (tryF p c x b) = p
-
 module _ (P : Program) where
-  operands-next : (vs : List (ℕ × Value)) (e e' : Expr) (es : Exprs) (h h' : Heap) (s s' : Store) (d q : ℕ) → step P e h s ≡ Out.next d q h' s' e'
+  operands-next : (vs : List (ℕ × Value)) (e e' : Expr) (es : Exprs) (h h' : Heap) (s s' : Store) (d q : ℕ)
+      → step P e h s ≡ Out.next d q h' s' e'
       → steps P (operandsOf vs e es) h s ≡ Outs.next d q h' s' (operandsOf vs e' es)
   unfolding step consOut tailOut operandsOf
   operands-next [] e e' es h h' s s' d q i = rw i
@@ -217,7 +200,9 @@ module _ (P : Program) where
   nexts-in [] e e' h h' s s' d q i = let z : 0 + d ≡ d = omega arith in rw z i
   nexts-in (F ∷ Fs) e e' h h' s s' d q i =
       let z : suc (length Fs) + d ≡ length Fs + suc d = omega arith in
-      rw z (nexts-in Fs (plug block F s e) (plug blocked F s' e') h h' (outer F s) (outer F s') (suc d) q (next-in P F e e' h h' s s' d q i))
+      rw z
+      (nexts-in Fs (plug block F s e) (plug blocked F s' e') h h' (outer F s) (outer F s') (suc d) q
+      (next-in P F e e' h h' s s' d q i))
 
   pub stucks-in : (Fs : List Frame) (e : Expr) (h : Heap) (s : Store) (d q : ℕ) → step P e h s ≡ Out.stuck d q
       → step P (plugs block Fs s e) h (outers Fs s) ≡ Out.stuck (length Fs + d) q
@@ -248,7 +233,8 @@ blocked-none p x t e h = go (view e) h
     go (isVal v) q = refl
     go other q = refl
 
-pub blocked-begun : (p x : ℕ) (t : Ty) (q r k : ℕ) (v : Value) (b : Expr) → blocked p x t none (seq q (assign r x (val k v)) b) ≡ block p x t (some v) b
+pub blocked-begun : (p x : ℕ) (t : Ty) (q r k : ℕ) (v : Value) (b : Expr)
+    → blocked p x t none (seq q (assign r x (val k v)) b) ≡ block p x t (some v) b
 unfolding blocked settle remember assigned valueIn view
 blocked-begun p x t q r k v b = rw (eq-eqb x x refl)
 
@@ -262,8 +248,122 @@ unfolding plugs
 plain-plugs [] s e h = refl
 plain-plugs (F ∷ Fs) s e h = rw (h .0) (plain-plugs Fs (outer F s) (plug block F s e) (h .1))
 
+-- An expression that gives no block around it a value to remember: no value, no `x := v`, and nothing that begins so.
+pub record Quiet (e : Expr) : Type 0 where
+  pub value : valueIn (view e) ≡ none
+  pub assign : (x : ℕ) → assigned x (view e) ≡ none
+  pub begin : (x : ℕ) → begun x (view e) ≡ none
+
+either : (t : Bool) → cond {A = Option Value} t none none ≡ none
+either true = refl
+either false = refl
+
+pub plug-value : (F : Frame) (s : Store) (e : Expr) → valueIn (view (plug block F s e)) ≡ none
+unfolding plug view valueIn
+plug-value (castF p c) s e = refl
+plug-value (addL p b) s e = refl
+plug-value (eqL p b) s e = refl
+plug-value (addR p r v) s e = refl
+plug-value (eqR p r v) s e = refl
+plug-value (assignF p y) s e = refl
+plug-value (getF p f c) s e = refl
+plug-value (putL p f c b) s e = refl
+plug-value (putR p f c r v) s e = refl
+plug-value (callL p m es) s e = refl
+plug-value (callR p m r v vs es) s e = refl
+plug-value (blockF p y t old) s e = refl
+plug-value (seqF p b) s e = refl
+plug-value (iteF p b c) s e = refl
+plug-value (throwF p t) s e = refl
+plug-value (tryF p c y b) s e = refl
+
+pub plug-assign : (F : Frame) (s : Store) (e : Expr) (x : ℕ) → valueIn (view e) ≡ none → assigned x (view (plug block F s e)) ≡ none
+unfolding plug view assigned
+plug-assign (castF p c) s e x h = refl
+plug-assign (addL p b) s e x h = refl
+plug-assign (eqL p b) s e x h = refl
+plug-assign (addR p r v) s e x h = refl
+plug-assign (eqR p r v) s e x h = refl
+plug-assign (assignF p y) s e x h = rw h (either (eqb x y))
+plug-assign (getF p f c) s e x h = refl
+plug-assign (putL p f c b) s e x h = refl
+plug-assign (putR p f c r v) s e x h = refl
+plug-assign (callL p m es) s e x h = refl
+plug-assign (callR p m r v vs es) s e x h = refl
+plug-assign (blockF p y t old) s e x h = refl
+plug-assign (seqF p b) s e x h = refl
+plug-assign (iteF p b c) s e x h = refl
+plug-assign (throwF p t) s e x h = refl
+plug-assign (tryF p c y b) s e x h = refl
+
+pub plug-begin : (F : Frame) (s : Store) (e : Expr) (x : ℕ) → assigned x (view e) ≡ none → begun x (view (plug block F s e)) ≡ none
+unfolding plug view begun
+plug-begin (castF p c) s e x h = refl
+plug-begin (addL p b) s e x h = refl
+plug-begin (eqL p b) s e x h = refl
+plug-begin (addR p r v) s e x h = refl
+plug-begin (eqR p r v) s e x h = refl
+plug-begin (assignF p y) s e x h = refl
+plug-begin (getF p f c) s e x h = refl
+plug-begin (putL p f c b) s e x h = refl
+plug-begin (putR p f c r v) s e x h = refl
+plug-begin (callL p m es) s e x h = refl
+plug-begin (callR p m r v vs es) s e x h = refl
+plug-begin (blockF p y t old) s e x h = refl
+plug-begin (seqF p b) s e x h = h
+plug-begin (iteF p b c) s e x h = refl
+plug-begin (throwF p t) s e x h = refl
+plug-begin (tryF p c y b) s e x h = refl
+
+blocked-plain : (p x : ℕ) (t : Ty) (mv : Option Value) (e : Expr) → begun x (view e) ≡ none → blocked p x t mv e ≡ block p x t mv e
+blocked-plain p x t none e h = blocked-none p x t e h
+blocked-plain p x t (some v) e h = blocked-some p x t v e
+
+pub plug-plain : (F : Frame) (s : Store) (e : Expr) → ((x : ℕ) → begun x (view e) ≡ none) → plug blocked F s e ≡ plug block F s e
+unfolding plug
+plug-plain (castF p c) s e h = refl
+plug-plain (addL p b) s e h = refl
+plug-plain (eqL p b) s e h = refl
+plug-plain (addR p r v) s e h = refl
+plug-plain (eqR p r v) s e h = refl
+plug-plain (assignF p y) s e h = refl
+plug-plain (getF p f c) s e h = refl
+plug-plain (putL p f c b) s e h = refl
+plug-plain (putR p f c r v) s e h = refl
+plug-plain (callL p m es) s e h = refl
+plug-plain (callR p m r v vs es) s e h = refl
+plug-plain (blockF p y t old) s e h = blocked-plain p y t (s y) e (h y)
+plug-plain (seqF p b) s e h = refl
+plug-plain (iteF p b c) s e h = refl
+plug-plain (throwF p t) s e h = refl
+plug-plain (tryF p c y b) s e h = refl
+
+-- around such an expression every block stays as it is
+pub quiet-plain : (Fs : List Frame) (s : Store) (e : Expr) → Quiet e → Plain Fs s e
+quiet-plain [] s e q = tt
+quiet-plain (F ∷ Fs) s e q = (
+  plug-plain F s e (q .begin),
+  quiet-plain Fs (outer F s) (plug block F s e)
+      (record {
+        value = plug-value F s e;
+        assign = λ x. plug-assign F s e x (q .value);
+        begin = λ x. plug-begin F s e x (q .assign x);
+      }),
+)
+
+-- and around a value too, in a frame that is no assignment
+pub value-plain : (F : Frame) (Fs : List Frame) (s : Store) (k : ℕ) (v : Value)
+    → ((x : ℕ) → assigned x (view (plug block F s (val k v))) ≡ none) → Plain (F ∷ Fs) s (val k v)
+unfolding view begun assigned
+value-plain F Fs s k v h = (
+  plug-plain F s (val k v) (λ x. refl),
+  quiet-plain Fs (outer F s) (plug block F s (val k v))
+      (record { value = plug-value F s (val k v); assign = h; begin = λ x. plug-begin F s (val k v) x refl }),
+)
+
 -- the three frames around a value that its block remembers are one, and x is set inside
-pub plugs-begun : (Fs : List Frame) (p x : ℕ) (t : Ty) (old : Option Value) (q r k : ℕ) (v : Value) (b : Expr) (s : Store) → s x ≡ none
+pub plugs-begun : (Fs : List Frame) (p x : ℕ) (t : Ty) (old : Option Value) (q r k : ℕ) (v : Value) (b : Expr) (s : Store)
+    → s x ≡ none
     → plugs blocked (assignF r x ∷ seqF q b ∷ blockF p x t old ∷ Fs) s (val k v)
     ≡ plugs blocked (blockF p x t old ∷ Fs) (upd s x (some v)) b
 unfolding plugs plug outer
@@ -334,7 +434,8 @@ module _ (P : Program) (p : ℕ) (h : Heap) (s : Store) where
   unfolding step under unders
   step-call m q v vs r w = rw (operands-values P vs r w h s)
 
-  pub step-block : (x : ℕ) (t : Ty) (mv : Option Value) (q : ℕ) (v : Value) → step P (block p x t mv (val q v)) h s ≡ Out.next 0 p h s (val q v)
+  pub step-block : (x : ℕ) (t : Ty) (mv : Option Value) (q : ℕ) (v : Value)
+      → step P (block p x t mv (val q v)) h s ≡ Out.next 0 p h s (val q v)
   unfolding step blockOut
   step-block x t mv q v = refl
 

@@ -1,6 +1,5 @@
 -- Laws of the heap: words and slots say the same, and a change of one is a change of the other.
 use mathlib.Core.Path.{_≡_, refl, sym, _∙_, ap}
-use mathlib.Core.Logic.{_≢_}
 use mathlib.Core.Bool.{Bool, true, false, cond, not, _&&_}
 use mathlib.Core.Option.{Option, none, some}
 use mathlib.Core.List.{List, [], _∷_, _++_, map, append-assoc}
@@ -10,19 +9,18 @@ use native.Mathlib.Decide.{ℕ-discrete}
 use lib.Dec.{eqb, leb, ltb, eqb·suc-zero}
 use lib.ListN.{length, getD, set, take, drop, replicate, length-append, length-set, length-map, length-replicate, getD-replicate, List·getD-append, List·getD-eq-default}
 use lib.Seq.{length-take-le, drop-append-le, drop-drop, set-getD, sets, sets-eq, getD-append-add, drop-at, take-append-add, drop-append-add, set-append-left, getD-set-same, getD-set-other, set-out, ext-getD}
-use borrow.Author.Tests.{eqb-true, leb-true, ltb-true, ltb-false, lt-ltb, le-ltb}
+use borrow.Author.Tests.{eqb-true, leb-true, le-leb, ltb-true, ltb-false}
 use Rattle.order.specs.declared.Found.{Found}
 use Rattle.order.specs.declared.Found.the-variants.{At, Nowhere}
 use Rattle.order.specs.Rules.{scan}
 use Rattle.words.specs.declared.Value.{Value}
-use Rattle.words.specs.declared.Value.the-variants.{Null, Intg, Addr}
 use Rattle.words.specs.declared.Decoded.{Decoded}
 use Rattle.words.specs.declared.Decoded.the-variants.{Is, Not}
 use Rattle.words.specs.declared.Ty.{Ty}
 use Rattle.words.specs.declared.Ty.the-variants.{Void, Boolean, Integer, NT, Class}
 use Rattle.words.specs.Value.{valueOf, wordOf, isIs, Proper}
 use Rattle.words.specs.ValueLaws.{decode-encode, encode-decode, decode-proper}
-use Rattle.image.specs.Laws.{and-left, and-right}
+use Rattle.image.specs.Laws.{and-left}
 use Rattle.image.specs.Trailer.{classCount}
 use Rattle.rules.specs.Maps.{tabulate}
 use Rattle.rules.specs.Trees.{written}
@@ -30,7 +28,7 @@ use Rattle.rules.specs.Program.{Field, Program, program}
 use Rattle.rules.specs.Classes.{hasFields}
 use Rattle.rules.specs.Heap.{Slot, free, obj, Heap, look, default, defaults, freeFrom, lowestFree, slotWords, slotAt, heapOf, slotWordsOf, wordsOf}
 use Rattle.rules.specs.Numbers.{fieldsRule, heapWordRule, mostFieldsAbove, fewestSlots, mostSlots, heapLengthHolds, slotWordHolds, slotFirst}
-use Rattle.laws.specs.Maps.{length-tabulate, getD-tabulate, tabulate-same, tabulate-getD, tabulate-all}
+use Rattle.laws.specs.Maps.{length-tabulate, getD-tabulate, tabulate-same, tabulate-getD, tabulate-all, getD-map}
 
 -- two facts about lists
 map-set {ℓ} : {A B : Type ℓ} (f : A → B) (l : List A) (i : ℕ) (a : A) → map f (set l i a) ≡ set (map f l) i (f a)
@@ -74,15 +72,11 @@ pub slot-class : (c : ℕ) (vs : List Value) → getD (slotWordsOf (obj c vs)) 0
 unfolding slotWordsOf
 slot-class c vs = refl
 
-pub slot-field : (c : ℕ) (vs : List Value) (i : ℕ) (d : Value) → i < length vs → getD (slotWordsOf (obj c vs)) (suc i) 0 ≡ wordOf (getD vs i d)
+pub slot-field : (c : ℕ) (vs : List Value) (i : ℕ) (d : Value) → i < length vs
+    → getD (slotWordsOf (obj c vs)) (suc i) 0 ≡ wordOf (getD vs i d)
 unfolding slotWordsOf
 slot-field c vs i d l =
-    List·getD-append (map wordOf vs) _ 0 i (rw length-map l) ∙ getD-map vs i l
-  where
-    getD-map : (vs : List Value) (i : ℕ) → i < length vs → getD (map wordOf vs) i 0 ≡ wordOf (getD vs i d)
-    getD-map [] i l = absurd (omega arith)
-    getD-map (v ∷ vs) zero l = refl
-    getD-map (v ∷ vs) (suc i) l = getD-map vs i (omega arith)
+    List·getD-append (map wordOf vs) _ 0 i (rw length-map l) ∙ getD-map wordOf vs i 0 d l
 
 pub slot-rest : (c : ℕ) (vs : List Value) (i : ℕ) → length vs ≤ i → suc i < slotWords → getD (slotWordsOf (obj c vs)) (suc i) 0 ≡ 0
 unfolding slotWordsOf
@@ -93,7 +87,8 @@ slot-rest c vs i h l =
     ∙ getD-replicate (slotWords - suc (length vs)) (i - length vs) 0 0 (omega arith)
 
 -- word k of slot a
-pub word-at : (h : Heap) → Fits h → (a k : ℕ) → k < slotWords → getD (wordsOf h) (slotWords * a + k) 0 ≡ getD (slotWordsOf (look h a)) k 0
+pub word-at : (h : Heap) → Fits h → (a k : ℕ) → k < slotWords
+    → getD (wordsOf h) (slotWords * a + k) 0 ≡ getD (slotWordsOf (look h a)) k 0
 unfolding wordsOf
 word-at [] f a k l = sym (slot-free k l)
 word-at (s ∷ h) f zero k l =
@@ -116,7 +111,7 @@ words-set (r ∷ h) f (suc a) s l =
     rw (p, q, take-append-add xs (wordsOf h) (slotWords * a), drop-append-add xs (wordsOf h) (slotWords * a + slotWords), append-assoc)
     (ap (xs ++_) (words-set h (fits-tail f) a s (omega arith)))
 
--- (the words around slot a, and its own)
+-- as the words around it and its own are all;
 pub words-split : (h : Heap) → Fits h → (a : ℕ) → a < length h
     → wordsOf h ≡ take (slotWords * a) (wordsOf h) ++ (slotWordsOf (look h a) ++ drop (slotWords * a + slotWords) (wordsOf h))
 words-split h f a l = ap wordsOf (sym (set-getD h a free)) ∙ words-set h f a (look h a) l
@@ -151,10 +146,13 @@ words-new h f a c vs l e k =
     ∙ sym (sets-eq (suc c ∷ map wordOf vs) (wordsOf h) (slotWords * a) (rw (length-words h f) (omega arith)))
 
 -- and a field written: its word is.
-slot-set : (c : ℕ) (vs : List Value) (i : ℕ) (w : Value) → i < length vs → slotWordsOf (obj c (set vs i w)) ≡ set (slotWordsOf (obj c vs)) (suc i) (wordOf w)
+slot-set : (c : ℕ) (vs : List Value) (i : ℕ) (w : Value) → i < length vs
+    → slotWordsOf (obj c (set vs i w)) ≡ set (slotWordsOf (obj c vs)) (suc i) (wordOf w)
 unfolding slotWordsOf
 slot-set c vs i w l =
-    rw (length-set vs i w, map-set wordOf vs i w, set-append-left (map wordOf vs) (replicate (slotWords - suc (length vs)) 0) i (wordOf w) (rw length-map l))
+    let ws = map wordOf vs in
+    rw (length-set vs i w, map-set wordOf vs i w)
+    (ap (suc c ∷_) (sym (set-append-left ws (replicate (slotWords - suc (length vs)) 0) i (wordOf w) (rw length-map l))))
 
 pub words-put : (h : Heap) → Fits h → (a c : ℕ) (vs : List Value) (i : ℕ) (w : Value) → look h a ≡ obj c vs → i < length vs
     → wordsOf (set h a (obj c (set vs i w))) ≡ set (wordsOf h) (slotWords * a + 1 + i) (wordOf w)
@@ -163,7 +161,8 @@ words-put [] f a c vs i w e l = absurd (let z : _≡_ {A = ℕ} 0 1 = cc in omeg
 words-put (s ∷ h) f zero c vs i w e l =
     let k : SlotFits (obj c vs) = rw e at (f .at 0) in
     let q : slotWords * 0 + 1 + i ≡ suc i = omega arith in
-    rw (q, slot-set c vs i w l, e) (sym (set-append-left (slotWordsOf (obj c vs)) (wordsOf h) (suc i) (wordOf w) (rw (length-slot (obj c vs) k) (omega arith))))
+    let r : suc i < length (slotWordsOf (obj c vs)) = rw (length-slot (obj c vs) k) (omega arith) in
+    rw (q, slot-set c vs i w l, e) (sym (set-append-left (slotWordsOf (obj c vs)) (wordsOf h) (suc i) (wordOf w) r))
 words-put (s ∷ h) f (suc a) c vs i w e l =
     let xs = slotWordsOf s in
     let q : slotWords * suc a + 1 + i ≡ length xs + (slotWords * a + 1 + i) = rw (length-slot s (f .at 0)) (omega arith) in
@@ -221,7 +220,8 @@ module _ (P : Program) (hs : List ℕ) where
     unfolding heapOf slotAt
     look-at a = go (ltb a (length hs / slotWords)) refl
       where
-        go : (t : Bool) → ltb a (length hs / slotWords) ≡ t → look (heapOf P hs) a ≡ slotAt P hs (slotWords * a) (getD hs (slotWords * a) 0)
+        go : (t : Bool) → ltb a (length hs / slotWords) ≡ t
+            → look (heapOf P hs) a ≡ slotAt P hs (slotWords * a) (getD hs (slotWords * a) 0)
         go true e = getD-tabulate (length hs / slotWords) _ a free (ltb-true _ _ e)
         go false e =
             let l : length (heapOf P hs) ≤ a = rw length-heap (ltb-false a (length hs / slotWords) e) in
@@ -244,7 +244,8 @@ module _ (P : Program) (hs : List ℕ) where
         go zero e = refl
         go (suc c) e = let q = look-obj a c e in absurd (let z : _≡_ {A = ℕ} 0 1 = cc in omega arith)
 
-    pub obj-word : (a c : ℕ) (vs : List Value) → look (heapOf P hs) a ≡ obj c vs → (getD hs (slotWords * a) 0 ≡ suc c) × (vs ≡ fieldsAt a c)
+    pub obj-word : (a c : ℕ) (vs : List Value) → look (heapOf P hs) a ≡ obj c vs
+        → (getD hs (slotWords * a) 0 ≡ suc c) × (vs ≡ fieldsAt a c)
     obj-word a c vs h = go (getD hs (slotWords * a) 0) refl
       where
         go : (first : ℕ) → getD hs (slotWords * a) 0 ≡ first → (first ≡ suc c) × (vs ≡ fieldsAt a c)
@@ -354,7 +355,8 @@ module _ (P : Program) (classes : ℕ) (hs : List ℕ) (w : Words P classes hs) 
           ap (λ (j : ℕ). getD (wordsOf (heapOf P hs)) j 0) (sym e)
           ∙ word-at (heapOf P hs) heap-fits a k (omega arith)
           ∙ ap (λ (s : Slot). getD (slotWordsOf s) k 0) (look-at P hs (w .whole) a)
-          ∙ slot-same (slotWords * a) (getD hs (slotWords * a) 0) k (omega arith) refl (slot-holds a k (omega arith) (omega (arith, w .whole)))
+          ∙ slot-same (slotWords * a) (getD hs (slotWords * a) 0) k (omega arith) refl
+          (slot-holds a k (omega arith) (omega (arith, w .whole)))
           ∙ ap (λ (j : ℕ). getD hs j 0) e
 
 -- An object as a program has it: a known class, as many proper values as the class has fields, and no more than a slot holds.
@@ -460,7 +462,8 @@ module _ (P : Program) (classes : ℕ) where
       go b false e (yes q) = rw (set-out h a r (ltb-false _ _ e)) (s .at b)
 
   -- a field written
-  pub object-put : (c : ℕ) (vs : List Value) → Object P classes c vs → (i : ℕ) (w : Value) → Proper w → Object P classes c (set vs i w)
+  pub object-put : (c : ℕ) (vs : List Value) → Object P classes c vs → (i : ℕ) (w : Value) → Proper w
+      → Object P classes c (set vs i w)
   object-put c vs o i w p =
       record {
         class = o .class;
@@ -474,7 +477,8 @@ module _ (P : Program) (classes : ℕ) where
       go j true e (yes q) = rw (q, getD-set-same vs i w Value.Unit (ltb-true _ _ e)) p
       go j false e (yes q) = rw (set-out vs i w (ltb-false _ _ e)) (o .proper j)
 
-  pub shaped-put : (h : Heap) → Shaped P classes h → (a c : ℕ) (vs : List Value) (i : ℕ) (w : Value) → look h a ≡ obj c vs → Proper w
+  pub shaped-put : (h : Heap) → Shaped P classes h → (a c : ℕ) (vs : List Value) (i : ℕ) (w : Value) → look h a ≡ obj c vs
+      → Proper w
       → Shaped P classes (set h a (obj c (set vs i w)))
   shaped-put h s a c vs i w e p = shaped-set h s a (obj c (set vs i w)) (object-put c vs (object-at h s a c vs e) i w p)
 
@@ -493,7 +497,8 @@ module _ (P : Program) (classes : ℕ) where
   shaped-new h s a c k l = shaped-set h s a (obj c (defaults (hasFields P c))) (object-new c k l)
 
   -- The same in words: a word written, and the slots that it makes.
-  pub heap-put : (hs : List ℕ) → Words P classes hs → (a c : ℕ) (vs : List Value) (i : ℕ) (v : Value) → look (heapOf P hs) a ≡ obj c vs
+  pub heap-put : (hs : List ℕ) → Words P classes hs → (a c : ℕ) (vs : List Value) (i : ℕ) (v : Value)
+      → look (heapOf P hs) a ≡ obj c vs
       → i < length vs → Proper v → heapOf P (set hs (slotWords * a + 1 + i) (wordOf v)) ≡ set (heapOf P hs) a (obj c (set vs i v))
   heap-put hs w a c vs i v e l p =
       let s = heap-shaped hs w in
@@ -502,6 +507,54 @@ module _ (P : Program) (classes : ℕ) where
       (ap (λ (l : List ℕ). set l (slotWords * a + 1 + i) (wordOf v)) (sym (words-heap P classes hs w))
       ∙ sym (words-put h (shaped-fits h s) a c vs i v e l))
       ∙ heap-words (set h a (obj c (set vs i v))) (shaped-put h s a c vs i v e p)
+
+  pub heap-new : (hs : List ℕ) → Words P classes hs → (a c : ℕ) → a < length (heapOf P hs) → look (heapOf P hs) a ≡ free
+      → c < classes
+      → heapOf P (sets hs (slotWords * a) (suc c ∷ map wordOf (defaults (hasFields P c))))
+      ≡ set (heapOf P hs) a (obj c (defaults (hasFields P c)))
+  heap-new hs w a c l e k =
+      let s = heap-shaped hs w in
+      let h = heapOf P hs in
+      let vs = defaults (hasFields P c) in
+      ap (heapOf P)
+      (ap (λ (l : List ℕ). sets l (slotWords * a) (suc c ∷ map wordOf vs)) (sym (words-heap P classes hs w))
+      ∙ sym (words-new h (shaped-fits h s) a c vs l e (rw length-defaults (w .few c k))))
+      ∙ heap-words (set h a (obj c vs)) (shaped-new h s a c k (w .few c k))
+
+  -- the words of a shaped heap hold
+  slot-shaped : (r : Slot) → SlotShaped P classes r → (k : ℕ) → k < slotWords
+      → slotWordHolds P classes (getD (slotWordsOf r) 0 0) k (getD (slotWordsOf r) k 0) ≡ true
+  unfolding slotWordHolds
+  slot-shaped free o zero l = rw (slot-free 0 l) (le-leb 0 classes (omega arith))
+  slot-shaped free o (suc j) l = rw (slot-free 0 (omega arith), slot-free (suc j) l)
+  slot-shaped (obj c vs) o zero l = rw slot-class (le-leb _ _ (o .class))
+  slot-shaped (obj c vs) o (suc j) l = rw slot-class (go (ltb j (length (hasFields P c))) refl)
+    where
+      go : (t : Bool) → ltb j (length (hasFields P c)) ≡ t
+          → cond t (isIs (valueOf (getD (slotWordsOf (obj c vs)) (suc j) 0))) (eqb (getD (slotWordsOf (obj c vs)) (suc j) 0) 0) ≡ true
+      go true t =
+          rw (slot-field c vs j Value.Unit (rw (o .count) (ltb-true _ _ t)), encode-decode (getD vs j Value.Unit) (o .proper j))
+      go false t = rw (slot-rest c vs j (rw (o .count) (ltb-false _ _ t)) l)
+
+  pub shaped-words : (h : Heap) → Shaped P classes h → ((c : ℕ) → c < classes → length (hasFields P c) ≤ mostFieldsAbove)
+      → Words P classes (wordsOf h)
+  shaped-words h s few =
+      let f = shaped-fits h s in
+      record {
+        few = few;
+        whole = rw (length-words h f) (omega arith);
+        holds =
+            λ i l.
+            let a = i / slotWords in
+            let k = i % slotWords in
+            let e : i ≡ slotWords * a + k = omega arith in
+            let z : slotWords * a ≡ slotWords * a + 0 = omega arith in
+            let p : getD (wordsOf h) (slotWords * a) 0 ≡ getD (slotWordsOf (look h a)) 0 0 =
+            ap (λ (j : ℕ). getD (wordsOf h) j 0) z ∙ word-at h f a 0 (omega arith) in
+            let q : getD (wordsOf h) i 0 ≡ getD (slotWordsOf (look h a)) k 0 =
+            ap (λ (j : ℕ). getD (wordsOf h) j 0) e ∙ word-at h f a k (omega arith) in
+            rw (p, q) (slot-shaped (look h a) (s .at a) k (omega arith));
+      }
 
 -- Free slots. The lowest one is free, and those below it are not.
 pub record Room (h : Heap) (a : ℕ) : Type 0 where
@@ -529,7 +582,8 @@ abbrev pub place : Found → Option ℕ
 place (At a) = some a
 place Nowhere = none
 
-freeFrom-scan : (test : ℕ → Bool) (h : Heap) (i : ℕ) → ((a : ℕ) → a < length h → test (i + a) ≡ taken (look h a)) → freeFrom h i ≡ place (scan test (length h) i)
+freeFrom-scan : (test : ℕ → Bool) (h : Heap) (i : ℕ) → ((a : ℕ) → a < length h → test (i + a) ≡ taken (look h a))
+    → freeFrom h i ≡ place (scan test (length h) i)
 unfolding freeFrom scan
 freeFrom-scan test [] i t = refl
 freeFrom-scan test (free ∷ h) i t = let z : i + 0 ≡ i = omega arith in rw (rw z at (t 0 (omega arith)))
@@ -538,7 +592,8 @@ freeFrom-scan test (obj c vs ∷ h) i t =
     rw (rw z at (t 0 (omega arith)))
     (freeFrom-scan test h (suc i) (λ a l. let q : suc i + a ≡ i + suc a = omega arith in rw q (t (suc a) (omega arith))))
 
-pub lowestFree-scan : (test : ℕ → Bool) (h : Heap) → ((a : ℕ) → a < length h → test a ≡ taken (look h a)) → lowestFree h ≡ place (scan test (length h) 0)
+pub lowestFree-scan : (test : ℕ → Bool) (h : Heap) → ((a : ℕ) → a < length h → test a ≡ taken (look h a))
+    → lowestFree h ≡ place (scan test (length h) 0)
 unfolding lowestFree
 lowestFree-scan test h t = freeFrom-scan test h 0 (λ a l. let q : 0 + a ≡ a = omega arith in rw q (t a l))
 
@@ -552,5 +607,6 @@ taken-word h f a =
     go free = rw (slot-free 0 (omega arith))
     go (obj c vs) = rw (slot-class, eqb·suc-zero c)
 
-pub lowestFree-words : (h : Heap) → Fits h → lowestFree h ≡ place (scan (λ a. not (eqb (getD (wordsOf h) (slotWords * a) 0) 0)) (length h) 0)
+pub lowestFree-words : (h : Heap) → Fits h
+    → lowestFree h ≡ place (scan (λ a. not (eqb (getD (wordsOf h) (slotWords * a) 0) 0)) (length h) 0)
 lowestFree-words h f = lowestFree-scan _ h (λ a l. taken-word h f a)

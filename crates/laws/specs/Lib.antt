@@ -1,6 +1,8 @@
 -- Laws of the rules' definitions, which a reader need not believe: the checker does.
 pub mod Maps
 pub mod Trees
+pub mod Postorder
+pub mod Sites
 pub mod Classes
 pub mod Heap
 pub mod Frames

@@ -1,15 +1,16 @@
--- Laws of maps: `upd`, `tabulate` and `from`.
+-- Laws of maps and their tables: `upd`, `tabulate`, `from`, and stretches of a table.
 use mathlib.Core.Path.{_≡_, refl, sym, _∙_, ap, fun-ext}
 use mathlib.Core.Bool.{Bool, true, false, cond}
-use mathlib.Core.Option.{Option, none, some}
+use mathlib.Core.Option.{none, some}
 use mathlib.Core.List.{List, [], _∷_, _++_, map}
 use Prim.Native.Nat.{ℕ, zero, suc, _+_, _-_, _≤_, _<_}
 use native.Mathlib.Omega.{arith}
 use lib.Dec.{eqb}
-use lib.ListN.{length, getD, take, drop}
+use lib.ListN.{length, getD, drop, drop-of-length-le}
 use lib.Seq.{drop-cons}
 use borrow.Author.Tests.{eqb-true, eq-eqb, ne-eqb}
 use Rattle.rules.specs.Maps.{upd, tabulate, from}
+use Rattle.rules.specs.Numbers.{joined}
 
 module _ {ℓ} {A : Type ℓ} where
   pub upd-same : (f : ℕ → A) (x : ℕ) (a : A) → upd f x a x ≡ a
@@ -47,7 +48,8 @@ module _ {ℓ} {A : Type ℓ} where
       go y false e = refl
 
 -- Two maps under a relation: updated alike,
-pub upd-rel : {A B : Type 0} (R : A → B → Type 0) (f : ℕ → A) (g : ℕ → B) (x : ℕ) {a : A} {b : B} (y : ℕ) → R a b → R (f y) (g y) → R (upd f x a y) (upd g x b y)
+pub upd-rel : {A B : Type 0} (R : A → B → Type 0) (f : ℕ → A) (g : ℕ → B) (x : ℕ) {a : A} {b : B} (y : ℕ) → R a b
+    → R (f y) (g y) → R (upd f x a y) (upd g x b y)
 unfolding upd
 upd-rel R f g x {a} {b} y p q = go (eqb x y)
   where
@@ -56,7 +58,8 @@ upd-rel R f g x {a} {b} y p q = go (eqb x y)
     go false = q
 
 -- one of them updated in keeping with the other,
-pub upd-keep : {A B : Type 0} (R : A → B → Type 0) (f : ℕ → A) (g : ℕ → B) (x : ℕ) {a : A} (y : ℕ) → R a (g x) → R (f y) (g y) → R (upd f x a y) (g y)
+pub upd-keep : {A B : Type 0} (R : A → B → Type 0) (f : ℕ → A) (g : ℕ → B) (x : ℕ) {a : A} (y : ℕ) → R a (g x)
+    → R (f y) (g y) → R (upd f x a y) (g y)
 unfolding upd
 upd-keep R f g x {a} y p q = go (eqb x y) refl
   where
@@ -65,7 +68,8 @@ upd-keep R f g x {a} y p q = go (eqb x y) refl
     go false e = q
 
 -- and a place given back what it had.
-pub restore-rel : {A B : Type 0} (R : A → B → Type 0) (f h : ℕ → A) (g : ℕ → B) (x y : ℕ) (b : B) → R (h y) (upd g x b y) → R (f y) (g y) → R (upd h x (f x) y) (g y)
+pub restore-rel : {A B : Type 0} (R : A → B → Type 0) (f h : ℕ → A) (g : ℕ → B) (x y : ℕ) (b : B) → R (h y) (upd g x b y)
+    → R (f y) (g y) → R (upd h x (f x) y) (g y)
 unfolding upd
 restore-rel R f h g x y b p q = go (eqb x y) refl p
   where
@@ -88,6 +92,9 @@ module _ {ℓ} {A : Type ℓ} where
   pub drop-tabulate : (n : ℕ) (f : ℕ → A) (i : ℕ) → i < n → drop i (tabulate n f) ≡ f i ∷ drop (suc i) (tabulate n f)
   drop-tabulate n f i h =
       rw (drop-cons (tabulate n f) i (f i) (rw length-tabulate h), getD-tabulate n f i (f i) h)
+
+  pub drop-tabulate-all : (n : ℕ) (f : ℕ → A) (i : ℕ) → n ≤ i → drop i (tabulate n f) ≡ []
+  drop-tabulate-all n f i h = drop-of-length-le (tabulate n f) {i = i} (rw length-tabulate h)
 
   -- maps that agree below n
   pub tabulate-same : (n : ℕ) (f g : ℕ → A) → ((i : ℕ) → i < n → f i ≡ g i) → tabulate n f ≡ tabulate n g
@@ -124,7 +131,9 @@ module _ {ℓ} {A : Type ℓ} where
   from-at x (a ∷ l) zero d h = let e : x + 0 ≡ x = omega arith in rw e (upd-same (from (suc x) l) x (some a))
   from-at x (a ∷ l) (suc i) d h =
       let e : x + suc i ≡ suc x + i = omega arith in
-      upd-other (from (suc x) l) x (some a) (x + suc i) (λ q. omega arith) ∙ ap (from (suc x) l) e ∙ from-at (suc x) l i d (omega arith)
+      upd-other (from (suc x) l) x (some a) (x + suc i) (λ q. omega arith)
+      ∙ ap (from (suc x) l) e
+      ∙ from-at (suc x) l i d (omega arith)
 
   pub from-below : (x : ℕ) (l : List A) (y : ℕ) → y < x → from x l y ≡ none
   unfolding from
@@ -139,47 +148,78 @@ module _ {ℓ} {A : Type ℓ} where
       upd-other (from (suc x) l) x (some a) y (λ q. omega arith) ∙ from-beyond (suc x) l y (omega arith)
 
 -- what holds of every value of a map holds all over its table
-pub tabulate-all {ℓ} : {A : Type ℓ} (Q : A → Type 0) (n : ℕ) (f : ℕ → A) (i : ℕ) (d : A) → ((j : ℕ) → Q (f j)) → Q d → Q (getD (tabulate n f) i d)
+pub tabulate-all {ℓ} : {A : Type ℓ} (Q : A → Type 0) (n : ℕ) (f : ℕ → A) (i : ℕ) (d : A) → ((j : ℕ) → Q (f j)) → Q d
+    → Q (getD (tabulate n f) i d)
 unfolding tabulate
 tabulate-all Q zero f i d h q = q
 tabulate-all Q (suc n) f zero d h q = h 0
 tabulate-all Q (suc n) f (suc i) d h q = tabulate-all Q n (λ j. f (suc j)) i d (λ j. h (suc j)) q
 
-pub map-tabulate {ℓ κ} : {A : Type ℓ} {B : Type κ} (g : A → B) (n : ℕ) (f : ℕ → A) → map g (tabulate n f) ≡ tabulate n (λ i. g (f i))
+pub map-tabulate {ℓ κ} : {A : Type ℓ} {B : Type κ} (g : A → B) (n : ℕ) (f : ℕ → A)
+    → map g (tabulate n f) ≡ tabulate n (λ i. g (f i))
 unfolding tabulate
 map-tabulate g zero f = refl
 map-tabulate g (suc n) f = ap (g (f 0) ∷_) (map-tabulate g n (λ i. f (suc i)))
 
--- The numbers from b on and below e.
-unfoldable pub range : (b e : ℕ) → List ℕ
-range b e = tabulate (e - b) (λ i. b + i)
+pub getD-map {ℓ κ} : {A : Type ℓ} {B : Type κ} (g : A → B) (l : List A) (i : ℕ) (b : B) (a : A) → i < length l
+    → getD (map g l) i b ≡ g (getD l i a)
+getD-map g [] i b a h = absurd (omega arith)
+getD-map g (x ∷ l) zero b a h = refl
+getD-map g (x ∷ l) (suc i) b a h = getD-map g l i b a (omega arith)
 
-pub range-from : (b n : ℕ) → range b (b + n) ≡ tabulate n (λ i. b + i)
-unfolding range
-range-from b n = let e : b + n - b ≡ n = omega arith in rw e
+-- The values of a map from b on and below e.
+unfoldable pub stretch {ℓ} : {A : Type ℓ} → (ℕ → A) → (b e : ℕ) → List A
+stretch f b e = tabulate (e - b) (λ i. f (b + i))
 
-pub range-zero : (n : ℕ) → range 0 n ≡ tabulate n (λ i. i)
-unfolding range
-range-zero n = let e : n - 0 ≡ n = omega arith in rw e (tabulate-same n (λ i. 0 + i) (λ i. i) (λ i h. omega arith))
+module _ {ℓ} {A : Type ℓ} (f : ℕ → A) where
+  pub length-stretch : (b e : ℕ) → length (stretch f b e) ≡ e - b
+  unfolding stretch
+  length-stretch b e = length-tabulate (e - b) (λ i. f (b + i))
 
-pub range-none : (b : ℕ) → range b b ≡ []
-unfolding range tabulate
-range-none b = let e : b - b ≡ 0 = omega arith in rw e
+  pub stretch-from : (b n : ℕ) → stretch f b (b + n) ≡ tabulate n (λ i. f (b + i))
+  unfolding stretch
+  stretch-from b n = let e : b + n - b ≡ n = omega arith in rw e
 
-pub range-append : (b m e : ℕ) → b ≤ m → m ≤ e → range b m ++ range m e ≡ range b e
-unfolding range
-range-append b m e h k =
-    let p : m - b + (e - m) ≡ e - b = omega arith in
-    let q = tabulate-same (e - m) (λ i. m + i) (λ i. b + (m - b + i)) (λ i l. omega arith) in
-    rw (q, ← p) (tabulate-append (m - b) (e - m) (λ i. b + i))
+  pub stretch-zero : (n : ℕ) → stretch f 0 n ≡ tabulate n f
+  unfolding stretch
+  stretch-zero n =
+      let e : n - 0 ≡ n = omega arith in
+      rw e (tabulate-same n (λ i. f (0 + i)) f (λ i h. let q : 0 + i ≡ i = omega arith in ap f q))
 
-pub range-last : (b n : ℕ) → b ≤ n → range b (suc n) ≡ range b n ++ (n ∷ [])
-unfolding range
-range-last b n h =
-    let p : suc n - b ≡ suc (n - b) = omega arith in
-    let q : b + (n - b) ≡ n = omega arith in
-    rw (p, tabulate-last (n - b) (λ i. b + i), q)
+  pub stretch-none : (b : ℕ) → stretch f b b ≡ []
+  unfolding stretch tabulate
+  stretch-none b = let e : b - b ≡ 0 = omega arith in rw e
 
-pub length-range : (b e : ℕ) → length (range b e) ≡ e - b
-unfolding range
-length-range b e = length-tabulate (e - b) (λ i. b + i)
+  pub stretch-append : (b m e : ℕ) → b ≤ m → m ≤ e → stretch f b m ++ stretch f m e ≡ stretch f b e
+  unfolding stretch
+  stretch-append b m e h k =
+      let p : m - b + (e - m) ≡ e - b = omega arith in
+      let q =
+      tabulate-same (e - m) (λ i. f (m + i)) (λ i. f (b + (m - b + i)))
+      (λ i l. let z : m + i ≡ b + (m - b + i) = omega arith in ap f z) in
+      rw (q, ← p) (tabulate-append (m - b) (e - m) (λ i. f (b + i)))
+
+  pub stretch-last : (b n : ℕ) → b ≤ n → stretch f b (suc n) ≡ stretch f b n ++ (f n ∷ [])
+  unfolding stretch
+  stretch-last b n h =
+      let p : suc n - b ≡ suc (n - b) = omega arith in
+      let q : b + (n - b) ≡ n = omega arith in
+      rw (p, tabulate-last (n - b) (λ i. f (b + i)), q)
+
+  pub stretch-same : (g : ℕ → A) (b e : ℕ) → ((i : ℕ) → b ≤ i → i < e → f i ≡ g i) → stretch f b e ≡ stretch g b e
+  unfolding stretch
+  stretch-same g b e h = tabulate-same (e - b) _ _ (λ i l. h (b + i) (omega arith) (omega arith))
+
+-- stretches that follow each other
+pub rising-le : (s : ℕ → ℕ) (n : ℕ) → ((i : ℕ) → i < n → s i ≤ s (suc i)) → s 0 ≤ s n
+rising-le s zero h = omega arith
+rising-le s (suc n) h = omega (arith, h n (omega arith), rising-le s n (λ i l. h i (omega arith)))
+
+pub joined-stretches {ℓ} : {A : Type ℓ} (f : ℕ → A) (s : ℕ → ℕ) (n : ℕ) → ((i : ℕ) → i < n → s i ≤ s (suc i))
+    → joined (tabulate n (λ i. stretch f (s i) (s (suc i)))) ≡ stretch f (s 0) (s n)
+unfolding joined tabulate
+joined-stretches f s zero h = sym (stretch-none f (s 0))
+joined-stretches f s (suc n) h =
+    let u : ℕ → ℕ = λ i. s (suc i) in
+    let k : (i : ℕ) → i < n → u i ≤ u (suc i) = λ i l. h (suc i) (omega arith) in
+    rw (joined-stretches f u n k) (stretch-append f (s 0) (s 1) (s (suc n)) (h 0 (omega arith)) (rising-le u n k))

@@ -4,26 +4,8 @@ use mathlib.Core.Path.{_≡_}
 use mathlib.Core.Option.{Option}
 use Rattle.words.specs.declared.Value.{Value}
 use Rattle.words.specs.declared.Ty.{Ty}
-use Rattle.rules.specs.Trees.{Expr, Exprs, new, cast, val, var, add, eq, assign, get, put, call, block, seq, ite, while, throw, try, cons}
+use Rattle.rules.specs.Trees.{Expr, Exprs, new, cast, val, var, add, eq, assign, get, put, call, block, seq, ite, while, throw, try, cons, place}
 use Rattle.reduction.specs.AppendixB.{Final}
-
-unfoldable pub placeOf : Expr → ℕ
-placeOf (new p c) = p
-placeOf (cast p c e) = p
-placeOf (val p v) = p
-placeOf (var p x) = p
-placeOf (add p a b) = p
-placeOf (eq p a b) = p
-placeOf (assign p x e) = p
-placeOf (get p f d e) = p
-placeOf (put p f d a b) = p
-placeOf (call p m e es) = p
-placeOf (block p x t mv e) = p
-placeOf (seq p a b) = p
-placeOf (ite p c a b) = p
-placeOf (while p c e) = p
-placeOf (throw p t e) = p
-placeOf (try p c x a b) = p
 
 -- an element of a list with only values before it
 pub data FirstOf : Exprs → Expr → Type 0 where
@@ -51,5 +33,5 @@ pub data Turn : Expr → Expr → Type 0 where
 
 -- `Active e d p`: the active place of e, which is not final, is the node p, and d constructors stand above it.
 pub data Active : Expr → (depth place : ℕ) → Type 0 where
-  Here : {e : Expr} {p : ℕ} → ¬ Final e → ((s : Expr) → Turn e s → Final s) → placeOf e ≡ p → Active e 0 p
+  Here : {e : Expr} {p : ℕ} → ¬ Final e → ((s : Expr) → Turn e s → Final s) → place e ≡ p → Active e 0 p
   Below : {e s : Expr} {d p : ℕ} → Turn e s → Active s d p → Active e (suc d) p

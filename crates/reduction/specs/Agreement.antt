@@ -13,13 +13,13 @@ use Rattle.words.specs.declared.Ty.{Ty}
 use Rattle.words.specs.declared.Ty.the-variants.{Class}
 use Rattle.words.specs.Integer.{plusOf}
 use Rattle.rules.specs.Maps.{upd}
-use Rattle.rules.specs.Trees.{Expr, Exprs, new, cast, val, var, add, eq, assign, get, put, call, block, seq, ite, while, throw, try, nil, cons}
+use Rattle.rules.specs.Trees.{Expr, Exprs, new, cast, val, var, add, eq, assign, get, put, call, block, seq, ite, while, throw, try, nil, cons, place}
 use Rattle.rules.specs.Program.{Method, Program}
 use Rattle.rules.specs.Classes.{subclass, seesMethod, hasFields, fieldIndex}
 use Rattle.rules.specs.Heap.{Slot, free, obj, Heap, look, lowestFree}
 use Rattle.rules.specs.Step.{Store, classCast, thrown-at, tag, payload, sameValue, Redex, gives, raises, fails, readRedex, addRedex, eqRedex, newRedex, castSlot, castRedex, getField, getSlot, getRedex, putField, putSlot, putRedex, blocked, load, Out, Outs, value, values, to, redex, under, unders, both, ifOut, throwOut, blockOut, consOut, tailOut, blocks, enter, callSlot, callOut, catchSlot, tryOut, step, steps}
 use Rattle.reduction.specs.AppendixB.{Final, AValue, AnException, Values, NoValue, OneValue, Throws, Now, Later, Reduces, New, NewNoMemory, CastStep, CastNull, Cast, CastFails, CastThrow, AddFirst, AddSecond, Add, AddFirstThrow, AddSecondThrow, EqFirst, EqSecond, EqTrue, EqFalse, EqFirstThrow, EqSecondThrow, Var, AssignStep, Assign, AssignThrow, GetStep, Get, GetNull, GetThrow, SetFirst, SetSecond, Set, SetNull, SetFirstThrow, SetSecondThrow, CallStep, CallArguments, Call, CallNull, CallThrow, CallArgumentThrow, BlockStep, BlockBegins, BlockRemembers, Block, BlockRemembering, BlockThrow, BlockRememberingThrow, SeqStep, Seq, SeqThrow, IfStep, IfTrue, IfFalse, IfThrow, While, ThrowStep, ThrowNull, ThrowThrow, TryStep, Try, TryCatch, TryFails, ReducesAll, ListFirst, ListRest}
-use Rattle.reduction.specs.ActivePlace.{placeOf, FirstOf, First, After, Turn, OfCast, OfAdd, OfAddSecond, OfEq, OfEqSecond, OfAssign, OfGet, OfSet, OfSetSecond, OfCall, OfCallArguments, OfBlock, OfSeq, OfIf, OfThrow, OfTry, Active, Here, Below}
+use Rattle.reduction.specs.ActivePlace.{FirstOf, First, After, Turn, OfCast, OfAdd, OfAddSecond, OfEq, OfEqSecond, OfAssign, OfGet, OfSet, OfSetSecond, OfCall, OfCallArguments, OfBlock, OfSeq, OfIf, OfThrow, OfTry, Active, Here, Below}
 
 pub test-true : (b : Bool) → T b → b ≡ true
 test-true true t = refl
@@ -130,7 +130,7 @@ ready OfIf r = r
 ready OfThrow r = r
 ready OfTry r = r
 
-here : (e : Expr) → ¬ Final e → Ready e → Active e 0 (placeOf e)
+here : (e : Expr) → ¬ Final e → Ready e → Active e 0 (place e)
 here e n r = Here n (λ s t. ready t r) refl
 
 values-final : {es : Exprs} {vs : List Value} {s : Expr} → Values es vs → FirstOf es s → Final s
@@ -360,7 +360,7 @@ module _ (P : Program) where
         (λ q v. under-tells p ob (k (val q v)) _ b (c' q v) s' (λ q' w. redex-tells p (f v w) (n q q' v w) (r q q' v w)))
 
     around-cast : (p c : ℕ) → Around p (cast p c)
-    unfolding placeOf
+    unfolding place
     around-cast p c =
         record {
           turn = λ a. OfCast;
@@ -370,7 +370,7 @@ module _ (P : Program) where
         }
 
     around-add : (p : ℕ) (b : Expr) → Around p (λ a. add p a b)
-    unfolding placeOf
+    unfolding place
     around-add p b =
         record {
           turn = λ a. OfAdd;
@@ -380,7 +380,7 @@ module _ (P : Program) where
         }
 
     around-add-second : (p s : ℕ) (v : Value) → Around p (add p (val s v))
-    unfolding placeOf
+    unfolding place
     around-add-second p s v =
         record {
           turn = λ a. OfAddSecond;
@@ -390,7 +390,7 @@ module _ (P : Program) where
         }
 
     around-eq : (p : ℕ) (b : Expr) → Around p (λ a. eq p a b)
-    unfolding placeOf
+    unfolding place
     around-eq p b =
         record {
           turn = λ a. OfEq;
@@ -400,7 +400,7 @@ module _ (P : Program) where
         }
 
     around-eq-second : (p s : ℕ) (v : Value) → Around p (eq p (val s v))
-    unfolding placeOf
+    unfolding place
     around-eq-second p s v =
         record {
           turn = λ a. OfEqSecond;
@@ -410,7 +410,7 @@ module _ (P : Program) where
         }
 
     around-assign : (p x : ℕ) → Around p (assign p x)
-    unfolding placeOf
+    unfolding place
     around-assign p x =
         record {
           turn = λ a. OfAssign;
@@ -420,7 +420,7 @@ module _ (P : Program) where
         }
 
     around-get : (p f d : ℕ) → Around p (get p f d)
-    unfolding placeOf
+    unfolding place
     around-get p f d =
         record {
           turn = λ a. OfGet;
@@ -430,7 +430,7 @@ module _ (P : Program) where
         }
 
     around-set : (p f d : ℕ) (b : Expr) → Around p (λ a. put p f d a b)
-    unfolding placeOf
+    unfolding place
     around-set p f d b =
         record {
           turn = λ a. OfSet;
@@ -440,7 +440,7 @@ module _ (P : Program) where
         }
 
     around-set-second : (p f d s : ℕ) (v : Value) → Around p (put p f d (val s v))
-    unfolding placeOf
+    unfolding place
     around-set-second p f d s v =
         record {
           turn = λ a. OfSetSecond;
@@ -450,7 +450,7 @@ module _ (P : Program) where
         }
 
     around-call : (p m : ℕ) (es : Exprs) → Around p (λ e. call p m e es)
-    unfolding placeOf
+    unfolding place
     around-call p m es =
         record {
           turn = λ a. OfCall;
@@ -460,7 +460,7 @@ module _ (P : Program) where
         }
 
     around-seq : (p : ℕ) (b : Expr) → Around p (λ a. seq p a b)
-    unfolding placeOf
+    unfolding place
     around-seq p b =
         record {
           turn = λ a. OfSeq;
@@ -470,7 +470,7 @@ module _ (P : Program) where
         }
 
     around-if : (p : ℕ) (a b : Expr) → Around p (λ c. ite p c a b)
-    unfolding placeOf
+    unfolding place
     around-if p a b =
         record {
           turn = λ c. OfIf;
@@ -480,7 +480,7 @@ module _ (P : Program) where
         }
 
     around-throw : (p : ℕ) (u : Ty) → Around p (throw p u)
-    unfolding placeOf
+    unfolding place
     around-throw p u =
         record {
           turn = λ a. OfThrow;
@@ -580,7 +580,7 @@ module _ (P : Program) where
     if-tells p q (Value.Bool false) a b n = at IfFalse n
 
     throw-tells : (p q : ℕ) (t : Ty) (v : Value) → Tells (throwOut p h l v) (throw p t (val q v)) h l
-    unfolding throwOut redex placeOf
+    unfolding throwOut redex place
     throw-tells p q t Value.Unit = here (throw p t (val q Value.Unit)) (λ g. elim g [ ]) AValue
     throw-tells p q t Null = at ThrowNull (here (throw p t (val q Null)) (λ g. elim g [ ]) AValue)
     throw-tells p q t (Value.Bool b) = here (throw p t (val q (Value.Bool b))) (λ g. elim g [ ]) AValue
@@ -615,7 +615,7 @@ module _ (P : Program) where
 
     unders-tells : (p m q : ℕ) (v : Value) (o : Outs) (es : Exprs) → TellsAll o es h l
         → Tells (unders p h l o (call p m (val q v)) (λ vs. callOut P p h l m v vs)) (call p m (val q v) es) h l
-    unfolding unders placeOf
+    unfolding unders place
     unders-tells p m q v (values vs) es s =
         call-tells p m q v es vs s (here (call p m (val q v) es) (λ g. elim g [ ]) (Went (λ e f. values-final s f)))
     unders-tells p m q v (Outs.thrown a) es s =
@@ -626,7 +626,7 @@ module _ (P : Program) where
     unders-tells p m q v (Outs.stuck n r) es s = Below (OfCallArguments (s .1)) (s .2)
 
     try-tells : (p c x : ℕ) (b : Expr) (o : Out) (a : Expr) → Tells o a h l → Tells (tryOut P p h l c x b o) (try p c x a b) h l
-    unfolding tryOut catchSlot placeOf
+    unfolding tryOut catchSlot place
     try-tells p c x b (value q v) a s = rw s (at Try (here (try p c x (val q v) b) (λ g. elim g [ ]) AValue))
     try-tells p c x b (Out.thrown y) a (Thrown {p = q} {q = r} {t = t}) = slot (look h y) refl
       where
@@ -691,7 +691,7 @@ module _ (P : Program) where
 
     block-tells : (p x : ℕ) (t : Ty) (mv : Option Value) (o : Out) (e : Expr) → Tells o e h (upd l x mv)
         → Tells (blockOut p x t h l o) (block p x t mv e) h l
-    unfolding blockOut placeOf
+    unfolding blockOut place
     block-tells p x t none (value q v) e s =
         rw s (at Block (here (block p x t none (val q v)) (λ g. elim g [ ]) AValue))
     block-tells p x t (some w) (value q v) e s =
@@ -712,7 +712,7 @@ module _ (P : Program) where
     block-tells p x t mv (Out.stuck d q) e s = Below OfBlock s
 
   mutual
-    unfolding step placeOf
+    unfolding step place
 
     pub tells : (e : Expr) (h : Heap) (l : Store) → Tells (step P e h l) e h l
     tells (new p c) h l =

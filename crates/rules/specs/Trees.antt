@@ -110,26 +110,34 @@ place (while p c e) = p
 place (throw p t e) = p
 place (try p c x a b) = p
 
--- the places of all its nodes, operands before their node
-unfoldable mutual
-  pub places : Expr → List ℕ
-  places (new p c) = p ∷ []
-  places (cast p c e) = places e ++ (p ∷ [])
-  places (val p v) = p ∷ []
-  places (var p x) = p ∷ []
-  places (add p a b) = places a ++ (places b ++ (p ∷ []))
-  places (eq p a b) = places a ++ (places b ++ (p ∷ []))
-  places (assign p x e) = places e ++ (p ∷ [])
-  places (get p f d e) = places e ++ (p ∷ [])
-  places (put p f d a b) = places a ++ (places b ++ (p ∷ []))
-  places (call p m e es) = places e ++ (placesAll es ++ (p ∷ []))
-  places (block p x t mv e) = places e ++ (p ∷ [])
-  places (seq p a b) = places a ++ (places b ++ (p ∷ []))
-  places (ite p c a b) = places c ++ (places a ++ (places b ++ (p ∷ [])))
-  places (while p c e) = places c ++ (places e ++ (p ∷ []))
-  places (throw p t e) = places e ++ (p ∷ [])
-  places (try p c x a b) = places a ++ (places b ++ (p ∷ []))
+-- something of each node of a tree, operands before their node: the order of the node numbers
+module _ {A : Type 0} (at : Expr → A) where
+  unfoldable mutual
+    pub postorder : Expr → List A
+    postorder (new p c) = at (new p c) ∷ []
+    postorder (cast p c e) = postorder e ++ (at (cast p c e) ∷ [])
+    postorder (val p v) = at (val p v) ∷ []
+    postorder (var p x) = at (var p x) ∷ []
+    postorder (add p a b) = postorder a ++ (postorder b ++ (at (add p a b) ∷ []))
+    postorder (eq p a b) = postorder a ++ (postorder b ++ (at (eq p a b) ∷ []))
+    postorder (assign p x e) = postorder e ++ (at (assign p x e) ∷ [])
+    postorder (get p f d e) = postorder e ++ (at (get p f d e) ∷ [])
+    postorder (put p f d a b) = postorder a ++ (postorder b ++ (at (put p f d a b) ∷ []))
+    postorder (call p m e es) = postorder e ++ (postorderAll es ++ (at (call p m e es) ∷ []))
+    postorder (block p x t mv e) = postorder e ++ (at (block p x t mv e) ∷ [])
+    postorder (seq p a b) = postorder a ++ (postorder b ++ (at (seq p a b) ∷ []))
+    postorder (ite p c a b) = postorder c ++ (postorder a ++ (postorder b ++ (at (ite p c a b) ∷ [])))
+    postorder (while p c e) = postorder c ++ (postorder e ++ (at (while p c e) ∷ []))
+    postorder (throw p t e) = postorder e ++ (at (throw p t e) ∷ [])
+    postorder (try p c x a b) = postorder a ++ (postorder b ++ (at (try p c x a b) ∷ []))
 
-  pub placesAll : Exprs → List ℕ
-  placesAll nil = []
-  placesAll (cons e es) = places e ++ placesAll es
+    pub postorderAll : Exprs → List A
+    postorderAll nil = []
+    postorderAll (cons e es) = postorder e ++ postorderAll es
+
+-- the places of all its nodes
+abbrev pub places : Expr → List ℕ
+places e = postorder place e
+
+abbrev pub placesAll : Exprs → List ℕ
+placesAll es = postorderAll place es
