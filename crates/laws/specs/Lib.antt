@@ -1,0 +1,4 @@
+-- Laws of the rules' definitions, which a reader need not believe: the checker does.
+pub mod Maps
+pub mod Trees
+pub mod Classes
