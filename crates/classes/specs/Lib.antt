@@ -1,0 +1,3 @@
+-- Laws, which a reader need not believe: the checker does.
+pub mod Records
+pub mod Types
