@@ -82,3 +82,23 @@ module _ (ws : List ℕ) where
   pub type-open : (i : ℕ) → typeHolds ws i ≡ true → isType (typeAt ws i) (classCount ws) ≡ true
   unfolding typeHolds
   type-open i h = declared-type _ _ h
+
+  -- a record is after the one before it
+  pub field-rises : (i : ℕ) → fieldHolds ws (suc i) ≡ true
+      → rises (fieldWord ws i 0) (fieldWord ws i 1) (fieldWord ws (suc i) 0) (fieldWord ws (suc i) 1) ≡ true
+  unfolding fieldHolds fieldRises
+  field-rises i h =
+      and-right
+      (memberHolds (classCount ws) (fieldWord ws (suc i) 0) (fieldWord ws (suc i) 1) (fieldWord ws (suc i) 2))
+      _
+      h
+
+  pub method-rises : (i : ℕ) → methodHolds ws (suc i) ≡ true
+      → rises (methodWord ws i 0) (methodWord ws i 1) (methodWord ws (suc i) 0) (methodWord ws (suc i) 1) ≡ true
+  unfolding methodHolds methodRises
+  method-rises i h =
+      and-right
+      (memberHolds (classCount ws) (methodWord ws (suc i) 0) (methodWord ws (suc i) 1) (methodWord ws (suc i) 2)
+      && argumentsHold (typeCount ws) (methodWord ws (suc i) 3) (methodWord ws (suc i) 4))
+      _
+      h
