@@ -3,16 +3,22 @@
 // tables of members are sorted, so that a member is looked up by halves.
 ghost use mathlib.Core.Path.{_≡_};
 ghost use mathlib.Core.Bool.{true};
+ghost use mathlib.Core.Option.{some};
 ghost use Prim.Native.Nat.{_+_, _*_, _^_, _≤_, _<_};
+ghost use Rattle.order.specs.Rules.{firstPlace};
 ghost use Rattle.image.specs.Numbers.{highestName};
-ghost use Rattle.image.specs.Trailer.{classCount};
+ghost use Rattle.image.specs.Trailer.{classCount, fieldCount};
 ghost use Rattle.image.specs.Layout.{Lay, Good};
 ghost use Rattle.words.specs.Types.{typeOf, isType};
-ghost use Rattle.rules.specs.Program.{program};
-ghost use Rattle.rules.specs.Classes.{subclass, subtype};
+ghost use Rattle.rules.specs.Program.{typesFrom, methodAt, program};
+ghost use Rattle.rules.specs.Classes.{subclass, subtype, subtypes, overrides, overrideHolds};
+ghost use Rattle.rules.specs.Numbers.{fieldsRule, overrideRule};
 ghost use Rattle.classes.specs.Sees.{Sees};
 ghost use Rattle.classes.specs.Keys.{names, countOf, sizeOf, keyOf};
+ghost use Rattle.classes.specs.Counts.{Counted};
 use image::Layout;
+use image::MOST_CLASSES;
+use order::Found;
 
 // The word of class 0 as a type. The words below it name no class.
 const FIRST_CLASS: u32 = 4;
@@ -22,6 +28,9 @@ const NULL_TYPE: u32 = 3;
 
 // How many names there are: a key is a class's number times this, and the name.
 const NAMES: usize = 65536;
+
+// How many fields a class may have, with those of the classes above it.
+const MOST_FIELDS_ABOVE: usize = 15;
 
 // The two tables of members. Each is sorted by (class, name).
 pub enum Members {
@@ -129,4 +138,39 @@ pub fn look_up(ws: &[u32], l: Layout, m: Members, c: usize, name: usize) -> Seen
         }
         at = image::class_word(ws, l, at) as usize;
     }
+}
+
+// How many fields each class declares.
+fn own_counts(ws: &[u32], l: Layout) -> [usize; MOST_CLASSES]
+    requires { ⌜ Good (now ws) l ⌝ }
+    ensures { λ r. ⌜ Counted (now (ws .entry)) (fieldCount (now (ws .entry))) r ⌝ }
+{
+    let mut counts: [usize; MOST_CLASSES] = [0; MOST_CLASSES];
+    let mut i = 0;
+    while i < l.field_count {
+        let c = image::field_word(ws, l, i, 0) as usize;
+        counts[c] += 1;
+        i += 1;
+    }
+    counts
+}
+
+// 10: the first class that has too many fields. A class has its superclass's fields and its own, and the superclass comes
+// first. Class 0 is the system's: it has none.
+pub fn fields_place(ws: &[u32], l: Layout) -> Found
+    requires { ⌜ Good (now ws) l ⌝ }
+    ensures { λ r. ⌜ r ≡ firstPlace (fieldsRule (now (ws .entry))) ⌝ }
+{
+    let mut counts = own_counts(ws, l);
+    let mut c = 1;
+    while c < l.class_count {
+        let s = image::class_word(ws, l, c) as usize;
+        let total = counts[s] + counts[c];
+        if MOST_FIELDS_ABOVE < total {
+            return Found::At(c);
+        }
+        counts[c] = total;
+        c += 1;
+    }
+    Found::Nowhere
 }
