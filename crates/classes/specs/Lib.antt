@@ -8,3 +8,4 @@ pub mod Types
 pub mod Search
 pub mod Tables
 pub mod Totals
+pub mod Overrides
