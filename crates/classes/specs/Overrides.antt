@@ -1,26 +1,21 @@
 -- Laws of 11: parameter types one by one, and what a method is compared with.
 use mathlib.Core.Path.{_≡_, refl, sym, _∙_, ap}
 use mathlib.Core.Bool.{Bool, true, false, _&&_}
-use mathlib.Core.Option.{Option, none, some}
+use mathlib.Core.Option.{Option, some}
 use mathlib.Core.List.{List, [], _∷_}
-use Prim.Native.Nat.{ℕ, zero, suc, _+_, _-_, _≤_, _<_}
-use native.Mathlib.Numerals.{add-one}
+use Prim.Native.Nat.{ℕ, suc, _+_, _-_, _≤_, _<_}
 use native.Mathlib.Omega.{arith}
 use lib.ListN.{length}
 use Rattle.words.specs.declared.Ty.{Ty}
 use Rattle.words.specs.Types.{typeOf}
-use Rattle.image.specs.Numbers.{mostArguments, highestName}
-use Rattle.image.specs.Trailer.{classCount, methodCount, typeCount}
+use Rattle.image.specs.Trailer.{classCount, typeCount}
 use Rattle.image.specs.Records.{superclass, methodWord, typeAt}
 use Rattle.image.specs.Layout.{Good}
 use Rattle.image.specs.declared.Layout.{Layout}
 use Rattle.rules.specs.Maps.{tabulate}
 use Rattle.rules.specs.Program.{Method, Program, typesFrom, methodAt, program}
-use Rattle.rules.specs.Classes.{super, subtype, subtypes, seesMethod, overrides, overrideHolds}
+use Rattle.rules.specs.Classes.{subtype, subtypes, seesMethod, overrides, overrideHolds}
 use Rattle.laws.specs.Maps.{length-tabulate, tabulate-same}
-use Rattle.classes.specs.declared.Members.the-variants.{Methods}
-use Rattle.classes.specs.declared.Seen.the-variants.{At, Nothing}
-use Rattle.classes.specs.Sees.{Sees, MethodAt}
 use Rattle.classes.specs.Records.{Member, Arguments, method-open, method-arguments}
 use Rattle.classes.specs.Types.{super-is}
 

@@ -1,24 +1,15 @@
 -- Laws: what the rules of the layout say of a class, a field, a method and a type word, as facts on numbers.
-use mathlib.Core.Path.{_≡_, refl, sym, _∙_, ap}
-use mathlib.Core.Bool.{Bool, true, false, cond, _&&_, _||_}
+use mathlib.Core.Path.{_≡_, refl}
+use mathlib.Core.Bool.{true, _&&_}
 use mathlib.Core.List.{List}
-use mathlib.Core.Logic.{_⊎_, inl, inr, ⊎-elim}
-use Prim.Native.Nat.{ℕ, zero, suc, _+_, _*_, _-_, _≤_, _<_}
-use native.Mathlib.Omega.{arith}
-use lib.Dec.{ltb, leb, eqb}
-use lib.ListN.{length, getD}
-use borrow.Author.Tests.{ltb-true, leb-true, eqb-true}
+use Prim.Native.Nat.{ℕ, zero, suc, _+_, _≤_, _<_}
+use lib.Dec.{ltb, leb}
+use borrow.Author.Tests.{ltb-true, leb-true}
 use Rattle.words.specs.Types.{typeOf, isDeclared, isType}
-use Rattle.words.specs.TypeLaws.{is-type}
 use Rattle.image.specs.Numbers.{firstUserClass, mostArguments, highestName}
-use Rattle.image.specs.Trailer.{classCount, fieldCount, methodCount, typeCount}
-use Rattle.image.specs.Records.{superclass, fieldWord, methodWord, typeAt, isUserClass, isName, rises, memberHolds, fieldRises, fieldHolds, methodRises, argumentsHold, methodHolds, typeHolds}
+use Rattle.image.specs.Trailer.{classCount, typeCount}
+use Rattle.image.specs.Records.{fieldWord, methodWord, typeAt, isUserClass, isName, rises, memberHolds, fieldRises, fieldHolds, methodRises, argumentsHold, methodHolds, typeHolds}
 use Rattle.image.specs.Laws.{and-left, and-right}
-use Rattle.image.specs.Layout.{Good}
-use Rattle.rules.specs.Program.{program}
-use Rattle.rules.specs.Classes.{super}
-use Rattle.laws.specs.Maps.{getD-tabulate}
-use Rattle.laws.specs.Classes.{Lower, lower}
 
 -- the class, the name and the type of a member
 pub record Member (classes c n t : ℕ) : Type 0 where

@@ -1,6 +1,6 @@
 -- What a class sees of a name: a record of one of the two tables of members, or nothing.
 use mathlib.Core.Path.{_≡_}
-use mathlib.Core.Option.{Option, none, some}
+use mathlib.Core.Option.{none, some}
 use mathlib.Core.List.{List}
 use Prim.Native.Nat.{ℕ, _<_}
 use Rattle.image.specs.Trailer.{classCount, fieldCount, methodCount}

@@ -2,30 +2,29 @@
 -- none has it the class sees what its superclass sees.
 use mathlib.Core.Path.{_≡_, refl, sym, _∙_, ap}
 use mathlib.Core.Bool.{Bool, true, false, cond, _&&_, _||_}
-use mathlib.Core.Option.{Option, none, some}
+use mathlib.Core.Option.{none, some}
 use mathlib.Core.List.{List, [], _∷_}
-use mathlib.Core.Logic.{_⊎_, inl, inr, ⊎-elim}
 use Prim.Native.Nat.{ℕ, zero, suc, _+_, _*_, _≤_, _<_}
 use native.Mathlib.Omega.{arith}
 use lib.Dec.{ltb, eqb}
 use borrow.Author.Tests.{ltb-true, eqb-true, eq-eqb}
 use Rattle.image.specs.Numbers.{highestName}
 use Rattle.image.specs.Trailer.{classCount, fieldCount, methodCount}
-use Rattle.image.specs.Records.{superclass, fieldWord, methodWord, rises, fieldRises, fieldHolds, methodRises, methodHolds}
+use Rattle.image.specs.Records.{superclass, fieldWord, methodWord, rises}
 use Rattle.image.specs.Laws.{and-left, and-right}
 use Rattle.image.specs.Layout.{Good}
 use Rattle.image.specs.declared.Layout.{Layout}
 use Rattle.rules.specs.Maps.{tabulate}
 use Rattle.rules.specs.Program.{Field, Method, Program, fieldAt, methodAt, program}
-use Rattle.rules.specs.Classes.{orElse, super, declaredIn, seesField, methodIn, seesMethod}
+use Rattle.rules.specs.Classes.{declaredIn, seesField, methodIn, seesMethod}
 use Rattle.laws.specs.Classes.{seesField-zero, seesField-suc, seesMethod-zero, seesMethod-suc}
 use Rattle.classes.specs.declared.Members.{Members}
 use Rattle.classes.specs.declared.Members.the-variants.{Fields, Methods}
 use Rattle.classes.specs.declared.Seen.{Seen}
 use Rattle.classes.specs.declared.Seen.the-variants.{At, Nothing}
-use Rattle.classes.specs.Sees.{FieldAt, MethodAt, Sees}
+use Rattle.classes.specs.Sees.{Sees}
 use Rattle.classes.specs.Keys.{names, countOf, sizeOf, keyOf}
-use Rattle.classes.specs.Records.{Member, field-open, method-open, field-rises, method-rises}
+use Rattle.classes.specs.Records.{field-open, method-open, field-rises, method-rises}
 use Rattle.classes.specs.Types.{low, super-is}
 use Rattle.classes.specs.Search.{Rising, rising, firstOf, first-at, first-none}
 
@@ -56,21 +55,21 @@ other-key a b c n h = go (eqb a c) refl (eqb b n) refl
 -- Of n records that are sorted by class and name, the first with a given class and name.
 module _ {A : Type 0} (owner name : A → ℕ) (n : ℕ) (f : ℕ → A)
     (short : (i : ℕ) → i < n → name (f i) ≤ highestName) (r : Rising (λ i. owner (f i) * names + name (f i)) n) (c m : ℕ)
-    where
-  found : m ≤ highestName → (i : ℕ) → i < n → owner (f i) * names + name (f i) ≡ c * names + m
-      → firstOf (λ a. eqb (owner a) c && eqb (name a) m) (tabulate n f) ≡ some (f i)
-  found h i k e =
-      first-at (λ a. eqb (owner a) c && eqb (name a) m) n f i k
-      (same-key (owner (f i)) (name (f i)) c m (short i k) h e)
-      (λ j p.
-      other-key (owner (f j)) (name (f j)) c m
-      (λ q. let s = rising (λ i. owner (f i) * names + name (f i)) n r j i p k in omega arith))
+  where
+    found : m ≤ highestName → (i : ℕ) → i < n → owner (f i) * names + name (f i) ≡ c * names + m
+        → firstOf (λ a. eqb (owner a) c && eqb (name a) m) (tabulate n f) ≡ some (f i)
+    found h i k e =
+        first-at (λ a. eqb (owner a) c && eqb (name a) m) n f i k
+        (same-key (owner (f i)) (name (f i)) c m (short i k) h e)
+        (λ j p.
+        other-key (owner (f j)) (name (f j)) c m
+        (λ q. let s = rising (λ i. owner (f i) * names + name (f i)) n r j i p k in omega arith))
 
-  not-found : ((i : ℕ) → i < n → owner (f i) * names + name (f i) ≡ c * names + m → ⊥)
-      → firstOf (λ a. eqb (owner a) c && eqb (name a) m) (tabulate n f) ≡ none
-  not-found h =
-      first-none (λ a. eqb (owner a) c && eqb (name a) m) n f
-      (λ j p. other-key (owner (f j)) (name (f j)) c m (h j p))
+    not-found : ((i : ℕ) → i < n → owner (f i) * names + name (f i) ≡ c * names + m → ⊥)
+        → firstOf (λ a. eqb (owner a) c && eqb (name a) m) (tabulate n f) ≡ none
+    not-found h =
+        first-none (λ a. eqb (owner a) c && eqb (name a) m) n f
+        (λ j p. other-key (owner (f j)) (name (f j)) c m (h j p))
 
 declared-first : (P : Program) (l : List Field) (c f : ℕ) → declaredIn P l c f ≡ firstOf (λ r. eqb (r .owner) c && eqb (r .name) f) l
 unfolding declaredIn firstOf
@@ -148,7 +147,7 @@ module _ (ws : List ℕ) (l : Layout) (g : Good ws l) where
   field-own c name i h k e =
       declared-first (program ws) (program ws .fields) c name
       ∙ found (λ (r : Field). r .owner) (λ (r : Field). r .name) (fieldCount ws) (fieldAt ws)
-        (λ j p. field-open ws j (g .fields j p) .name) fields-rise c name h i k e
+      (λ j p. field-open ws j (g .fields j p) .name) fields-rise c name h i k e
 
   method-own : (c name i : ℕ) → name ≤ highestName → i < methodCount ws
       → methodWord ws i 0 * names + methodWord ws i 1 ≡ c * names + name
@@ -157,7 +156,7 @@ module _ (ws : List ℕ) (l : Layout) (g : Good ws l) where
   method-own c name i h k e =
       method-first (program ws) (program ws .methods) c name
       ∙ found (λ (r : Method). r .owner) (λ (r : Method). r .name) (methodCount ws) (methodAt ws)
-        (λ j p. method-open ws j (g .methods j p) .name) methods-rise c name h i k e
+      (λ j p. method-open ws j (g .methods j p) .name) methods-rise c name h i k e
 
   field-not : (c name : ℕ) → ((i : ℕ) → i < fieldCount ws → fieldWord ws i 0 * names + fieldWord ws i 1 ≡ c * names + name → ⊥)
       → declaredIn (program ws) (program ws .fields) c name ≡ none
@@ -165,7 +164,7 @@ module _ (ws : List ℕ) (l : Layout) (g : Good ws l) where
   field-not c name h =
       declared-first (program ws) (program ws .fields) c name
       ∙ not-found (λ (r : Field). r .owner) (λ (r : Field). r .name) (fieldCount ws) (fieldAt ws)
-        (λ j p. field-open ws j (g .fields j p) .name) fields-rise c name h
+      (λ j p. field-open ws j (g .fields j p) .name) fields-rise c name h
 
   method-not : (c name : ℕ) → ((i : ℕ) → i < methodCount ws → methodWord ws i 0 * names + methodWord ws i 1 ≡ c * names + name → ⊥)
       → methodIn (program ws) (program ws .methods) c name ≡ none
@@ -173,7 +172,7 @@ module _ (ws : List ℕ) (l : Layout) (g : Good ws l) where
   method-not c name h =
       method-first (program ws) (program ws .methods) c name
       ∙ not-found (λ (r : Method). r .owner) (λ (r : Method). r .name) (methodCount ws) (methodAt ws)
-        (λ j p. method-open ws j (g .methods j p) .name) methods-rise c name h
+      (λ j p. method-open ws j (g .methods j p) .name) methods-rise c name h
 
   -- a class sees what it declares
   sees-field : (c name : ℕ) (r : Field) → declaredIn (program ws) (program ws .fields) c name ≡ some r → seesField (program ws) c name ≡ some r

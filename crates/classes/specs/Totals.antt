@@ -6,7 +6,7 @@ use mathlib.Core.Logic.{_⊎_, inl, inr, ⊎-elim}
 use Prim.Native.Nat.{ℕ, zero, suc, _+_, _≤_, _<_}
 use native.Mathlib.Numerals.{add-one}
 use native.Mathlib.Omega.{arith}
-use lib.Dec.{ltb, leb, eqb}
+use lib.Dec.{eqb}
 use lib.ListN.{length, getD, set, replicate, length-append, length-set, length-replicate, getD-replicate}
 use lib.Seq.{getD-set-same, getD-set-other}
 use borrow.Author.Tests.{le-ltb, leb-true, le-leb, lt-leb, eqb-true, eqb-false, eq-eqb, ne-eqb}
@@ -18,14 +18,13 @@ use Rattle.image.specs.Layout.{Good}
 use Rattle.image.specs.declared.Layout.{Layout}
 use Rattle.rules.specs.Maps.{tabulate}
 use Rattle.rules.specs.Program.{Field, Program, fieldAt, program}
-use Rattle.rules.specs.Classes.{super, own, hasFields}
+use Rattle.rules.specs.Classes.{own, hasFields}
 use Rattle.rules.specs.Numbers.{mostFieldsAbove, fieldsRule}
-use Rattle.laws.specs.Maps.{length-tabulate, tabulate-last}
+use Rattle.laws.specs.Maps.{tabulate-last}
 use Rattle.laws.specs.Classes.{hasFields-zero, hasFields-suc}
 use Rattle.classes.specs.Counts.{ownCount, Counted}
 use Rattle.classes.specs.Records.{field-open}
 use Rattle.classes.specs.Types.{low, super-is, super-below}
-use Rattle.classes.specs.Search.{lt-or-ge}
 
 eq-or-not : (a b : ℕ) → (a ≡ b) ⊎ (a ≡ b → ⊥)
 eq-or-not a b = go (eqb a b) refl
@@ -78,7 +77,7 @@ module _ (ws : List ℕ) where
       ⊎-elim (λ h. omega (arith, count-hit n c h)) (λ h. omega (arith, count-skip n c h)) (eq-or-not (fieldWord ws n 0) c)
 
   pub counted-none : Counted ws 0 (replicate mostClasses 0)
-  counted-none = 
+  counted-none =
       record {
         size = length-replicate {A = ℕ} mostClasses 0;
         each = λ c k. getD-replicate {A = ℕ} mostClasses c 0 0 k ∙ sym (count-none c);

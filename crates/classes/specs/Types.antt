@@ -1,15 +1,13 @@
 -- Laws: subclass by one step upwards, and subtype by type words.
 use mathlib.Core.Path.{_≡_, refl, sym, _∙_, ap}
-use mathlib.Core.Bool.{Bool, true, false, _||_}
+use mathlib.Core.Bool.{Bool, true, false}
 use mathlib.Core.List.{List}
-use mathlib.Core.Logic.{_⊎_, inl, inr, ⊎-elim}
 use Prim.Native.Nat.{ℕ, zero, suc, _+_, _-_, _≤_, _<_}
 use native.Mathlib.Omega.{arith}
-use lib.Dec.{ltb, leb, eqb}
-use borrow.Author.Tests.{ltb-true, eqb-true, eqb-false, eq-eqb, ne-eqb}
-use Rattle.words.specs.declared.Ty.{Ty}
+use lib.Dec.{leb, eqb}
+use borrow.Author.Tests.{ltb-true, eqb-true, eqb-false, ne-eqb}
 use Rattle.words.specs.declared.Ty.the-variants.{Class}
-use Rattle.words.specs.Types.{typeOf, typeWord, isType}
+use Rattle.words.specs.Types.{typeOf, isType}
 use Rattle.words.specs.TypeLaws.{type-class, type-word-of, is-type}
 use Rattle.image.specs.Trailer.{classCount}
 use Rattle.image.specs.Records.{superclass}

@@ -26,7 +26,7 @@ const FIRST_CLASS: u32 = 4;
 // The word of the null type.
 const NULL_TYPE: u32 = 3;
 
-// How many names there are: a key is a class's number times this, and the name.
+// How many names there are. A key is a class's number times this, plus the name.
 const NAMES: usize = 65536;
 
 // How many fields a class may have, with those of the classes above it.
@@ -70,7 +70,9 @@ pub fn is_subtype(ws: &[u32], l: Layout, t: u32, u: u32) -> bool
     if u < FIRST_CLASS {
         return false;
     }
-    is_subclass(ws, l, (t - FIRST_CLASS) as usize, (u - FIRST_CLASS) as usize)
+    let c = (t - FIRST_CLASS) as usize;
+    let d = (u - FIRST_CLASS) as usize;
+    is_subclass(ws, l, c, d)
 }
 
 // How many records a table has.

@@ -1,80 +1,74 @@
-use Rattle.classes.specs.Overrides.{override-is, method-member}
-use Rattle.rules.specs.Classes.{overrides}
-use Rattle.classes.specs.Types.{super-below}
-use borrow.Author.Tests.{not-true, not-false}
-use native.Mathlib.Omega.{arith}
-use mathlib.Core.Path.{_≡_, refl, sym, _∙_, ap}
-use Prim.Native.Nat.{ℕ, _+_, _-_, _<_, _≤_}
-use borrow.Author.Needs.{needs}
+-- What the class above sees, if anything, is what the method is compared with.
 use Rattle.classes.proofs.override_holds.Statement.{statement}
+use Rattle.classes.specs.Overrides.{method-member, override-is}
+use Rattle.classes.specs.Types.{super-below}
+use Rattle.rules.specs.Classes.{overrides}
+use borrow.Author.Needs.{needs}
+use mathlib.Core.Path.{_∙_}
+use native.Mathlib.Omega.{arith}
 use Rattle.classes.proofs.override_holds.Tie as tie
-use Rattle.classes.proofs.override_holds.Reads as reads
-use Rattle.classes.proofs.override_holds.Lts as lts
-use Rattle.classes.proofs.look_up.Reads as look-up-reads
-use Rattle.classes.proofs.overrides.Reads as overrides-reads
-use Rattle.image.proofs.class_word.Reads as class-word-reads
-use Rattle.image.proofs.method_word.Reads as method-word-reads
 
--- src/lib.rt:217:17
 method-word-requires : tie.Need-method-word-requires
 method-word-requires c κs = search needs
 
--- src/lib.rt:217:17
 cast-owner : tie.Need-cast-owner
 cast-owner c = search needs
 
--- src/lib.rt:218:16
 method-word-requires-2 : tie.Need-method-word-requires-2
 method-word-requires-2 c κs = search needs
 
--- src/lib.rt:218:16
 cast-name : tie.Need-cast-name
 cast-name c = search needs
 
--- src/lib.rt:219:17
 class-word-requires : tie.Need-class-word-requires
-class-word-requires c κs = let p = c .before .before .before .pre in
+class-word-requires c κs =
+    let p = c .before .before .before .pre in
     let m = method-member _ _ (p .0) _ (p .1) in
     (p .0 .lay, omega arith)
 
--- src/lib.rt:219:17
 cast-above : tie.Need-cast-above
 cast-above c = search needs
 
--- src/lib.rt:220:9
 look-up-requires : tie.Need-look-up-requires
-look-up-requires c κs = let p = c .before .before .before .before .pre in
+look-up-requires c κs =
+    let p = c .before .before .before .before .pre in
     let m = method-member _ _ (p .0) _ (p .1) in
     let b = super-below _ _ (p .0) (c .before .before .method-word .result) (omega arith) (omega arith) in
     (p .0, omega arith, omega arith)
 
--- src/lib.rt:222:21
 enum-known-r : tie.Need-enum-known-r
 enum-known-r c = search needs
 
--- src/lib.rt:222:27
 overrides-requires : tie.Need-overrides-requires
-overrides-requires c κs = let p = c .before .before .before .before .before .before .before .before .pre in
+overrides-requires c κs =
+    let p = c .before .before .before .before .before .before .before .before .pre in
     let s = rw (c .before .r .given .1) at (c .before .before .before .look-up .ensures) in
     (p .0, p .1, omega (arith, s .within))
 
--- src/lib.rt:223:26
 enum-told : tie.Need-enum-told
 enum-told c = search needs
 
--- src/lib.rt:213:1
 returns : tie.Need-returns
-returns c = let p = c .before .before .before .before .before .before .before .before .before .pre in
+returns c =
+    let p = c .before .before .before .before .before .before .before .before .before .pre in
     let s = rw (c .before .before .r .given .1) at (c .before .before .before .before .look-up .ensures) in
-    c .overrides .ensures
-    ∙ override-is _ _ (method-member _ _ (p .0) _ (p .1) .class) (c .before .before .before .before .before .before .before .method-word .ensures) (c .before .before .before .before .before .before .method-word2 .ensures) (c .before .before .before .before .before .class-word .ensures) (s .sees)
+    rw (c .overrides .ensures)
+    (override-is _ _ (method-member _ _ (p .0) _ (p .1) .class)
+    (c .before .before .before .before .before .before .before .method-word .ensures)
+    (c .before .before .before .before .before .before .method-word2 .ensures)
+    (c .before .before .before .before .before .class-word .ensures)
+    (s .sees))
 
--- src/lib.rt:213:1
 returns-2 : tie.Need-returns-2
 unfolding overrides
-returns-2 c = let p = c .before .before .before .before .before .before .before .pre in
+returns-2 c =
+    let p = c .before .before .before .before .before .before .before .pre in
     let s = rw (c .enum-told .given .1) at (c .before .before .look-up .ensures) in
-    override-is _ _ (method-member _ _ (p .0) _ (p .1) .class) (c .before .before .before .before .before .method-word .ensures) (c .before .before .before .before .method-word2 .ensures) (c .before .before .before .class-word .ensures) s
+    override-is _ _ (method-member _ _ (p .0) _ (p .1) .class)
+    (c .before .before .before .before .before .method-word .ensures)
+    (c .before .before .before .before .method-word2 .ensures)
+    (c .before .before .before .class-word .ensures)
+    s
 
 pub override-holds-spec : {M : Type 1} → statement M
 override-holds-spec =
