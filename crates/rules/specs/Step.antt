@@ -183,7 +183,8 @@ unfoldable pub blocked : (p x : ℕ) → Ty → Option Value → Expr → Expr
 blocked p x t none e = settle p x t e (view e)
 blocked p x t (some v) e = block p x t (some v) e
 
--- A written tree made ready to run: each block that is written so remembers, and values lose their places.
+-- A written tree made ready to run: each block that is written so remembers, values lose their places, and a Throw its type,
+-- which is for typing alone.
 unfoldable mutual
   pub load : Expr → Expr
   load (new p c) = new p c
@@ -200,7 +201,7 @@ unfoldable mutual
   load (seq p a b) = seq p (load a) (load b)
   load (ite p c a b) = ite p (load c) (load a) (load b)
   load (while p c e) = while p (load c) (load e)
-  load (throw p t e) = throw p t (load e)
+  load (throw p t e) = throw p Void (load e)
   load (try p c x a b) = try p c x (load a) (load b)
 
   pub loads : Exprs → Exprs
