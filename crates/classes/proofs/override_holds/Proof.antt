@@ -4,7 +4,6 @@ use Rattle.classes.specs.Overrides.{method-member, override-is}
 use Rattle.classes.specs.Types.{super-below}
 use Rattle.rules.specs.Classes.{overrides}
 use borrow.Author.Needs.{needs}
-use mathlib.Core.Path.{_∙_}
 use native.Mathlib.Omega.{arith}
 use Rattle.classes.proofs.override_holds.Tie as tie
 

@@ -48,15 +48,9 @@ is-subtype-requires c κs =
     let p = c .before .before .before .before .before .before .before .before .before .pre in (p .0, rw (c .before .before .method-word5 .ensures) (method-member _ _ (p .0) _ (p .1) .type))
 
 returns-2 : tie.Need-returns-2
-returns-2 c = rw (
-  c .before .params-below .ensures,
-  c .is-subtype .ensures,
-  c .before .before .before .before .before .method-word3 .ensures,
-  c .before .before .before .before .method-word4 .ensures,
-  c .before .before .before .method-word5 .ensures,
-  c .before .before .method-word6 .ensures,
-)
-    (overrides-same _ _ _ _ (sym (c .before .before .before .before .before .before .before .method-word2 .ensures) ∙ c .before .before .before .before .before .before .if1 .left) (sym (c .before .before .before .before .before .before .before .before .method-word .ensures)))
+returns-2 c =
+    let o = overrides-same _ _ _ _ (sym (c .before .before .before .before .before .before .before .method-word2 .ensures) ∙ c .before .before .before .before .before .before .if1 .left) (sym (c .before .before .before .before .before .before .before .before .method-word .ensures)) in
+    cc
 
 pub overrides-spec : {M : Type 1} → statement M
 overrides-spec =
