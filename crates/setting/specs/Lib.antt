@@ -1,2 +1,3 @@
--- The sets of variables that the code has, as the definitions have them.
+-- The sets of variables that the code has, as the definitions have them; and what the check of a tree finds.
 pub mod Vars
+pub mod Settle
