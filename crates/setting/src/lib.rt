@@ -4,7 +4,12 @@ ghost use mathlib.Core.Bool.{Bool, true, false};
 ghost use Prim.Native.Nat.{ℕ, suc, _≤_, _<_};
 ghost use Rattle.image.specs.Numbers.{variables};
 ghost use Rattle.rules.specs.Maps.{upd};
+ghost use Rattle.image.specs.Trailer.{inputCount};
 ghost use Rattle.image.specs.Layout.{Good};
+ghost use Rattle.order.specs.Rules.{firstPlace};
+ghost use Rattle.rules.specs.Program.{methodAt, main};
+ghost use Rattle.rules.specs.Numbers.{settingRule};
+ghost use lib.ListN.{length};
 ghost use Rattle.laws.specs.Trees.{operandCount};
 ghost use Rattle.rules.specs.Trees.{arguments, tree};
 ghost use Rattle.rules.specs.Typing.{ok, need};
@@ -15,6 +20,7 @@ ghost use Rattle.setting.specs.Settle.{resOf, below, Node, meetBoth, giv
 ghost use Rattle.setting.specs.Settle.{own as Settle·own};
 use image::Kind;
 use image::Layout;
+use order::Found;
 
 // The variables that are surely set. A set goes in by value, and each method hands back the new one.
 pub struct Vars {
@@ -268,4 +274,42 @@ fn settle(ws: &[u32], l: Layout, n: usize, vars: Vars) -> Settled
             finish(k, n, x, a)
         }
     }
+}
+
+// Method i's body, from `this` and its arguments.
+fn settle_method(ws: &[u32], l: Layout, i: usize) -> Settled
+    requires { ⌜ Good (now ws) l × (i < l .«method_count») ⌝ }
+    ensures { λ r. ⌜ resOf r ≡ setting (methodAt (now (ws .entry)) i .body) (Setting·between 0 (length (methodAt (now (ws .entry)) i .params))) ⌝ }
+{
+    let count = image::method_word(ws, l, i, 4) as usize;
+    let body = image::method_word(ws, l, i, 5) as usize;
+    settle(ws, l, body, Vars::between(0, count))
+}
+
+// Main, from its inputs.
+fn settle_main(ws: &[u32], l: Layout) -> Settled
+    requires { ⌜ Good (now ws) l ⌝ }
+    ensures { λ r. ⌜ resOf r ≡ setting (main (now (ws .entry))) (Setting·between 1 (inputCount (now (ws .entry)))) ⌝ }
+{
+    settle(ws, l, l.main, Vars::between(1, l.inputs))
+}
+
+// 13: the first node that reads a variable which is not surely set.
+pub fn unset_place(ws: &[u32], l: Layout) -> Found
+    requires { ⌜ Good (now ws) l ⌝ }
+    ensures { λ r. ⌜ r ≡ firstPlace (settingRule (now (ws .entry))) ⌝ }
+{
+    let mut i = 0;
+    while i < l.method_count {
+        let a = settle_method(ws, l, i);
+        if !a.ok {
+            return Found::At(a.place);
+        }
+        i += 1;
+    }
+    let a = settle_main(ws, l);
+    if !a.ok {
+        return Found::At(a.place);
+    }
+    Found::Nowhere
 }
