@@ -1,10 +1,10 @@
 -- What the check of a tree finds, by the shape of its node; and the laws that its functions cite.
 use mathlib.Core.Path.{_≡_, refl, sym, _∙_, ap}
-use mathlib.Core.Bool.{Bool, true, false, cond, _&&_}
+use mathlib.Core.Bool.{Bool, true, false}
 use mathlib.Core.List.{List, [], _∷_}
-use Prim.Native.Nat.{ℕ, zero, suc, _+_, _-_, _≤_, _<_}
+use Prim.Native.Nat.{ℕ, suc, _-_, _<_}
 use native.Mathlib.Omega.{arith}
-use lib.Dec.{ltb, leb, eqb}
+use lib.Dec.{leb}
 use borrow.Author.Tests.{ltb-true}
 use types.Run.{OneOf, miss}
 use denote.Enum.Declared.{tagOf}
@@ -14,9 +14,9 @@ use Rattle.image.specs.declared.Kind.{Kind}
 use Rattle.image.specs.declared.Kind.the-variants.{New, Cast, Value as Literal, Var, Add, Eq, Assign, Get, Set, Call, Block, Seq, If, While, Throw, Try, Unknown}
 use Rattle.image.specs.declared.Layout.{Layout}
 use Rattle.image.specs.Numbers.{variables}
-use Rattle.image.specs.Trailer.{classCount, nodeCount}
+use Rattle.image.specs.Trailer.{classCount}
 use Rattle.image.specs.Nodes.{nodeWord, kindOf, isClass, isVariable, isLocal, isUnused, namesHold, operands, reach, sizeIs, nodeHolds}
-use Rattle.image.specs.Layout.{Lay, Good}
+use Rattle.image.specs.Layout.{Good}
 use Rattle.image.specs.Laws.{and-left, and-right}
 use Rattle.rules.specs.Maps.{upd}
 use Rattle.rules.specs.Trees.{Expr, operand, arguments, nodeOf, nodeTree, tree}

@@ -1,26 +1,25 @@
 -- Laws: what the checks of the bodies, one after the other, say of rule 13.
 use mathlib.Core.Path.{_≡_, refl, sym, _∙_, ap}
-use mathlib.Core.Bool.{Bool, true, false, _&&_}
-use mathlib.Core.List.{List, _++_}
-use Prim.Native.Nat.{ℕ, zero, suc, _+_, _-_, _≤_, _<_}
+use mathlib.Core.Bool.{Bool, true, false}
+use mathlib.Core.List.{List}
+use Prim.Native.Nat.{ℕ, suc, _+_, _≤_, _<_}
 use native.Mathlib.Omega.{arith}
 use lib.Dec.{leb}
 use lib.ListN.{length}
 use borrow.Author.Tests.{leb-true}
-use Rattle.order.specs.declared.Found.{Found}
 use Rattle.order.specs.declared.Found.the-variants.{At, Nowhere}
 use Rattle.order.specs.Rules.{firstPlace}
 use Rattle.words.specs.Types.{typeOf}
 use Rattle.image.specs.declared.Layout.{Layout}
 use Rattle.image.specs.Numbers.{variables, mostArguments}
-use Rattle.image.specs.Trailer.{classCount, methodCount, typeCount, nodeCount, mainNode, inputCount}
+use Rattle.image.specs.Trailer.{classCount, methodCount, typeCount, nodeCount, inputCount}
 use Rattle.image.specs.Records.{methodWord, typeAt, memberHolds, argumentsHold, methodRises, methodHolds}
 use Rattle.image.specs.Nodes.{bodyStart, nodeHolds, filledHolds}
 use Rattle.image.specs.Layout.{Good}
 use Rattle.image.specs.Laws.{and-left, and-right}
 use Rattle.rules.specs.Trees.{Expr, tree, places}
 use Rattle.rules.specs.Program.{typesFrom, methodAt, main}
-use Rattle.rules.specs.Typing.{Res, ok, bad, need}
+use Rattle.rules.specs.Typing.{ok, need}
 use Rattle.rules.specs.Setting.{Vars, between, setting}
 use Rattle.rules.specs.Sites.{after, reads}
 use Rattle.rules.specs.Numbers.{methodReads, allReads, settingRule}

@@ -1,20 +1,20 @@
 // Number 13: every variable is set before it is read.
 ghost use mathlib.Core.Path.{_≡_};
 ghost use mathlib.Core.Bool.{Bool, true, false};
-ghost use Prim.Native.Nat.{ℕ, suc, _≤_, _<_};
+ghost use Prim.Native.Nat.{ℕ, _≤_, _<_};
+ghost use lib.ListN.{length};
+ghost use Rattle.order.specs.Rules.{firstPlace};
 ghost use Rattle.image.specs.Numbers.{variables};
-ghost use Rattle.rules.specs.Maps.{upd};
 ghost use Rattle.image.specs.Trailer.{inputCount};
 ghost use Rattle.image.specs.Layout.{Good};
-ghost use Rattle.order.specs.Rules.{firstPlace};
-ghost use Rattle.rules.specs.Program.{methodAt, main};
-ghost use Rattle.rules.specs.Numbers.{settingRule};
-ghost use lib.ListN.{length};
-ghost use Rattle.laws.specs.Trees.{operandCount};
+ghost use Rattle.rules.specs.Maps.{upd};
 ghost use Rattle.rules.specs.Trees.{arguments, tree};
-ghost use Rattle.rules.specs.Typing.{ok, need};
+ghost use Rattle.rules.specs.Program.{methodAt, main};
+ghost use Rattle.rules.specs.Typing.{ok};
 ghost use Rattle.rules.specs.Setting.{everyVar, setting, settings};
 ghost use Rattle.rules.specs.Setting.{between as Setting·between, meet as Setting·meet};
+ghost use Rattle.rules.specs.Numbers.{settingRule};
+ghost use Rattle.laws.specs.Trees.{operandCount};
 ghost use Rattle.setting.specs.Vars.{varsOf, noVar};
 ghost use Rattle.setting.specs.Settle.{resOf, below, Node, meetBoth, giveBack, thenOwn, inBlock, inIf, inWhile, inTry};
 ghost use Rattle.setting.specs.Settle.{own as Settle·own};
@@ -115,7 +115,7 @@ fn passed(vars: Vars) -> Settled
 // Node n reads x.
 fn read(n: usize, x: usize, vars: Vars) -> Settled
     requires { ⌜ x < variables ⌝ }
-    ensures { λ r. ⌜ resOf r ≡ need (varsOf vars x) n (varsOf vars) ⌝ }
+    ensures { λ r. ⌜ (r .ok ≡ varsOf vars x) × (r .place ≡ n) × (r .vars ≡ vars) ⌝ }
 {
     Settled {
         ok: vars.has(x),
@@ -132,7 +132,10 @@ fn own(k: Kind, n: usize, x: usize, vars: Vars) -> Settled
     match k {
         Kind::Var => read(n, x, vars),
         Kind::Assign => passed(vars.with(x)),
-        Kind::Throw => passed(Vars::all()),
+        Kind::Throw => {
+            let all = Vars::all();
+            passed(all)
+        }
         _ => passed(vars),
     }
 }

@@ -1,19 +1,20 @@
-use Rattle.setting.specs.Settle.{resOf, below, inBlock, inIf, inWhile, inTry, giveBack, meetBoth, node-names, after-plain, after-block, after-if, after-while, after-try, block-operands, if-operands, while-operands, try-operands, list-end, list-stop, list-on, if-stop, if-on, while-stop, while-body, while-end}
+-- `setting::settle` and the functions that it calls and that call it meet their contracts. Each round goes to an operand, a node with a
+-- lower number.
+use Prim.Native.Nat.{ℕ, _*_, _+_, _≤_, _<_}
+use Rattle.image.specs.Nodes.{kindOf, nodeWord}
+use Rattle.image.specs.declared.Kind.the-variants.{Block, If, Try, While}
+use Rattle.rules.specs.Setting.{settings}
+use Rattle.rules.specs.Trees.{arguments}
+use Rattle.setting.proofs.+settle+settle_block+settle_if+settle_list+settle_one+settle_try+settle_while.{statement}
+use Rattle.setting.proofs.+settle+settle_block+settle_if+settle_list+settle_one+settle_try+settle_while.Tie.{close}
+use Rattle.setting.specs.Settle.{after-block, after-if, after-plain, after-try, after-while, below, block-operands, if-on, if-operands, if-stop, inBlock, inTry, list-end, list-on, list-stop, node-names, try-operands, while-body, while-end, while-operands, while-stop}
 use Rattle.setting.specs.Vars.{varsOf}
-use Rattle.rules.specs.Setting.{setting, settings}
-use Rattle.rules.specs.Typing.{ok, need}
-use Rattle.rules.specs.Trees.{arguments, tree}
-use Rattle.rules.specs.Maps.{upd}
-use Rattle.image.specs.Nodes.{nodeWord, kindOf}
-use Rattle.image.specs.declared.Kind.the-variants.{Block, If, While, Try}
-use borrow.Author.Tests.{not-true, not-false}
-use native.Mathlib.Omega.{arith}
-use mathlib.Core.Path.{_≡_, refl, sym, _∙_, ap}
-use Prim.Native.Nat.{suc, _+_, _*_, _-_, _≤_}
 use borrow.Author.Needs.{needs}
-use Prim.Native.Nat.{ℕ, _<_}
+use borrow.Author.Tests.{not-false, not-true}
 use borrow.Fn.Kinds.{In}
-use borrow.Fn.PlainCycle.{Measures, is, falls, and}
+use borrow.Fn.PlainCycle.{and, falls, is, Measures}
+use mathlib.Core.Path.{_∙_, _≡_, ap, refl, sym}
+use native.Mathlib.Omega.{arith}
 use Rattle.setting.proofs.settle.Reads as settle
 use Rattle.setting.proofs.settle.Kinds as settle-kinds
 use Rattle.setting.proofs.+settle+settle_block+settle_if+settle_list+settle_one+settle_try+settle_while.Lts-settle as settle-lts
@@ -46,12 +47,6 @@ use Rattle.setting.proofs.both.Reads as both-reads
 use Rattle.setting.proofs.finish.Reads as finish-reads
 use Rattle.setting.proofs.given_back.Reads as given-back-reads
 use Rattle.setting.proofs.passed.Reads as passed-reads
-use Rattle.setting.proofs.+settle+settle_block+settle_if+settle_list+settle_one+settle_try+settle_while.{
-  statement,
-}
-use Rattle.setting.proofs.+settle+settle_block+settle_if+settle_list+settle_one+settle_try+settle_while.Tie.{
-  close,
-}
 
 abbrev μ-settle : Measures 1 settle-kinds.ps ℕ
 μ-settle κs a = 4 * (a .1 .1 .0) + 3
@@ -135,630 +130,158 @@ settle-while-below t =
     (falls 1 settle-while-kinds.ps _<_ μ-settle-while t)
     settle-while.Pre
 
--- src/lib.rt:258:28
-settle-node-word-requires : (t : ℕ) → settle-lts.Need-node-word-requires (
-  node-word-reads.Asked,
-  node-word-reads.Learnt,
-  kind-of-reads.Asked,
-  kind-of-reads.Learnt,
-  settle-block-below t,
-  settle-block.Post,
-  settle-if-below t,
-  settle-if.Post,
-  settle-while-below t,
-  settle-while.Post,
-  settle-try-below t,
-  settle-try.Post,
-  operand-count-reads.Asked,
-  operand-count-reads.Learnt,
-  settle-list-below t,
-  settle-list.Post,
-  finish-reads.Asked,
-  finish-reads.Learnt,
-) (settle-at t) settle.Post
+-- what each of them is told of the functions that it calls
+abbrev settle-calls : ℕ → settle-lts.Claims
+settle-calls t = (node-word-reads.Asked, node-word-reads.Learnt, kind-of-reads.Asked, kind-of-reads.Learnt, settle-block-below t, settle-block.Post, settle-if-below t, settle-if.Post, settle-while-below t, settle-while.Post, settle-try-below t, settle-try.Post, operand-count-reads.Asked, operand-count-reads.Learnt, settle-list-below t, settle-list.Post, finish-reads.Asked, finish-reads.Learnt)
+
+abbrev settle-block-calls : ℕ → settle-block-lts.Claims
+settle-block-calls t = (has-reads.Asked, has-reads.Learnt, without-reads.Asked, without-reads.Learnt, settle-one-below t, settle-one.Post, given-back-reads.Asked, given-back-reads.Learnt)
+
+abbrev settle-if-calls : ℕ → settle-if-lts.Claims
+settle-if-calls t = (settle-one-below t, settle-one.Post, both-reads.Asked, both-reads.Learnt)
+
+abbrev settle-list-calls : ℕ → settle-list-lts.Claims
+settle-list-calls t = (settle-one-below t, settle-one.Post, passed-reads.Asked, passed-reads.Learnt)
+
+abbrev settle-one-calls : ℕ → settle-one-lts.Claims
+settle-one-calls t = (operand-place-reads.Asked, operand-place-reads.Learnt, settle-below t, settle.Post)
+
+abbrev settle-try-calls : ℕ → settle-try-lts.Claims
+settle-try-calls t = (has-reads.Asked, has-reads.Learnt, settle-one-below t, settle-one.Post, with-reads.Asked, with-reads.Learnt, given-back-reads.Asked, given-back-reads.Learnt, both-reads.Asked, both-reads.Learnt)
+
+abbrev settle-while-calls : ℕ → settle-while-lts.Claims
+settle-while-calls t = (settle-one-below t, settle-one.Post)
+
+settle-node-word-requires : (t : ℕ) → settle-lts.Need-node-word-requires (settle-calls t) (settle-at t) settle.Post
 settle-node-word-requires t c κs = search needs
 
--- src/lib.rt:258:9
-settle-kind-of-requires : (t : ℕ) → settle-lts.Need-kind-of-requires (
-  node-word-reads.Asked,
-  node-word-reads.Learnt,
-  kind-of-reads.Asked,
-  kind-of-reads.Learnt,
-  settle-block-below t,
-  settle-block.Post,
-  settle-if-below t,
-  settle-if.Post,
-  settle-while-below t,
-  settle-while.Post,
-  settle-try-below t,
-  settle-try.Post,
-  operand-count-reads.Asked,
-  operand-count-reads.Learnt,
-  settle-list-below t,
-  settle-list.Post,
-  finish-reads.Asked,
-  finish-reads.Learnt,
-) (settle-at t) settle.Post
+settle-kind-of-requires : (t : ℕ) → settle-lts.Need-kind-of-requires (settle-calls t) (settle-at t) settle.Post
 settle-kind-of-requires t c κs = search needs
 
--- src/lib.rt:259:13
-settle-node-word-requires-2 : (t : ℕ) → settle-lts.Need-node-word-requires-2 (
-  node-word-reads.Asked,
-  node-word-reads.Learnt,
-  kind-of-reads.Asked,
-  kind-of-reads.Learnt,
-  settle-block-below t,
-  settle-block.Post,
-  settle-if-below t,
-  settle-if.Post,
-  settle-while-below t,
-  settle-while.Post,
-  settle-try-below t,
-  settle-try.Post,
-  operand-count-reads.Asked,
-  operand-count-reads.Learnt,
-  settle-list-below t,
-  settle-list.Post,
-  finish-reads.Asked,
-  finish-reads.Learnt,
-) (settle-at t) settle.Post
+settle-node-word-requires-2 : (t : ℕ) → settle-lts.Need-node-word-requires-2 (settle-calls t) (settle-at t) settle.Post
 settle-node-word-requires-2 t c κs = search needs
 
--- src/lib.rt:259:13
-settle-cast-x : (t : ℕ) → settle-lts.Need-cast-x (
-  node-word-reads.Asked,
-  node-word-reads.Learnt,
-  kind-of-reads.Asked,
-  kind-of-reads.Learnt,
-  settle-block-below t,
-  settle-block.Post,
-  settle-if-below t,
-  settle-if.Post,
-  settle-while-below t,
-  settle-while.Post,
-  settle-try-below t,
-  settle-try.Post,
-  operand-count-reads.Asked,
-  operand-count-reads.Learnt,
-  settle-list-below t,
-  settle-list.Post,
-  finish-reads.Asked,
-  finish-reads.Learnt,
-) (settle-at t) settle.Post
+settle-cast-x : (t : ℕ) → settle-lts.Need-cast-x (settle-calls t) (settle-at t) settle.Post
 settle-cast-x t c = search needs
 
--- src/lib.rt:260:9
-settle-node-word-requires-3 : (t : ℕ) → settle-lts.Need-node-word-requires-3 (
-  node-word-reads.Asked,
-  node-word-reads.Learnt,
-  kind-of-reads.Asked,
-  kind-of-reads.Learnt,
-  settle-block-below t,
-  settle-block.Post,
-  settle-if-below t,
-  settle-if.Post,
-  settle-while-below t,
-  settle-while.Post,
-  settle-try-below t,
-  settle-try.Post,
-  operand-count-reads.Asked,
-  operand-count-reads.Learnt,
-  settle-list-below t,
-  settle-list.Post,
-  finish-reads.Asked,
-  finish-reads.Learnt,
-) (settle-at t) settle.Post
+settle-node-word-requires-3 : (t : ℕ) → settle-lts.Need-node-word-requires-3 (settle-calls t) (settle-at t) settle.Post
 settle-node-word-requires-3 t c κs = search needs
 
--- src/lib.rt:262:24
-settle-enum-told : (t : ℕ) → settle-lts.Need-enum-told (
-  node-word-reads.Asked,
-  node-word-reads.Learnt,
-  kind-of-reads.Asked,
-  kind-of-reads.Learnt,
-  settle-block-below t,
-  settle-block.Post,
-  settle-if-below t,
-  settle-if.Post,
-  settle-while-below t,
-  settle-while.Post,
-  settle-try-below t,
-  settle-try.Post,
-  operand-count-reads.Asked,
-  operand-count-reads.Learnt,
-  settle-list-below t,
-  settle-list.Post,
-  finish-reads.Asked,
-  finish-reads.Learnt,
-) (settle-at t) settle.Post
+settle-enum-told : (t : ℕ) → settle-lts.Need-enum-told (settle-calls t) (settle-at t) settle.Post
 settle-enum-told t c = search needs
 
--- src/lib.rt:262:24
-settle-settle-block-requires : (t : ℕ) → settle-lts.Need-settle-block-requires (
-  node-word-reads.Asked,
-  node-word-reads.Learnt,
-  kind-of-reads.Asked,
-  kind-of-reads.Learnt,
-  settle-block-below t,
-  settle-block.Post,
-  settle-if-below t,
-  settle-if.Post,
-  settle-while-below t,
-  settle-while.Post,
-  settle-try-below t,
-  settle-try.Post,
-  operand-count-reads.Asked,
-  operand-count-reads.Learnt,
-  settle-list-below t,
-  settle-list.Post,
-  finish-reads.Asked,
-  finish-reads.Learnt,
-) (settle-at t) settle.Post
-settle-settle-block-requires t c κs = let e : kindOf (nodeWord (c .before .before .before .before .before .before .before .args .ws .now) (c .before .before .before .before .before .before .before .args .n) 0) ≡ Block = sym (c .before .before .before .before .kind-of .ensures ∙ ap kindOf (c .before .before .before .before .before .node-word .ensures)) ∙ c .enum-told .given .1 in (search needs, (record { good = c .before .before .before .before .before .before .before .pre .1 .0; within = c .before .before .before .before .before .before .before .pre .1 .1 }, block-operands _ _ _ (c .before .before .before .before .before .before .before .pre .1 .0) (c .before .before .before .before .before .before .before .pre .1 .1) e, rw (c .before .before .before .node-word2 .ensures) (node-names _ _ _ (c .before .before .before .before .before .before .before .pre .1 .0) (c .before .before .before .before .before .before .before .pre .1 .1) .bound e)))
+settle-settle-block-requires : (t : ℕ) → settle-lts.Need-settle-block-requires (settle-calls t) (settle-at t) settle.Post
+settle-settle-block-requires t c κs =
+    let s = c .before .before .before .before .before .before .before in
+    let e : kindOf (nodeWord (s .args .ws .now) (s .args .n) 0) ≡ Block = sym (c .before .before .before .before .kind-of .ensures ∙ ap kindOf (c .before .before .before .before .before .node-word .ensures)) ∙ c .enum-told .given .1 in
+    (search needs, (record { good = s .pre .1 .0; within = s .pre .1 .1 }, block-operands _ _ _ (s .pre .1 .0) (s .pre .1 .1) e, rw (c .before .before .before .node-word2 .ensures) (node-names _ _ _ (s .pre .1 .0) (s .pre .1 .1) .bound e)))
 
--- src/lib.rt:263:21
-settle-enum-told-2 : (t : ℕ) → settle-lts.Need-enum-told-2 (
-  node-word-reads.Asked,
-  node-word-reads.Learnt,
-  kind-of-reads.Asked,
-  kind-of-reads.Learnt,
-  settle-block-below t,
-  settle-block.Post,
-  settle-if-below t,
-  settle-if.Post,
-  settle-while-below t,
-  settle-while.Post,
-  settle-try-below t,
-  settle-try.Post,
-  operand-count-reads.Asked,
-  operand-count-reads.Learnt,
-  settle-list-below t,
-  settle-list.Post,
-  finish-reads.Asked,
-  finish-reads.Learnt,
-) (settle-at t) settle.Post
+settle-enum-told-2 : (t : ℕ) → settle-lts.Need-enum-told-2 (settle-calls t) (settle-at t) settle.Post
 settle-enum-told-2 t c = search needs
 
--- src/lib.rt:263:21
-settle-settle-if-requires : (t : ℕ) → settle-lts.Need-settle-if-requires (
-  node-word-reads.Asked,
-  node-word-reads.Learnt,
-  kind-of-reads.Asked,
-  kind-of-reads.Learnt,
-  settle-block-below t,
-  settle-block.Post,
-  settle-if-below t,
-  settle-if.Post,
-  settle-while-below t,
-  settle-while.Post,
-  settle-try-below t,
-  settle-try.Post,
-  operand-count-reads.Asked,
-  operand-count-reads.Learnt,
-  settle-list-below t,
-  settle-list.Post,
-  finish-reads.Asked,
-  finish-reads.Learnt,
-) (settle-at t) settle.Post
-settle-settle-if-requires t c κs = let e : kindOf (nodeWord (c .before .before .before .before .before .before .before .args .ws .now) (c .before .before .before .before .before .before .before .args .n) 0) ≡ If = sym (c .before .before .before .before .kind-of .ensures ∙ ap kindOf (c .before .before .before .before .before .node-word .ensures)) ∙ c .enum-told2 .given .1 in (search needs, (record { good = c .before .before .before .before .before .before .before .pre .1 .0; within = c .before .before .before .before .before .before .before .pre .1 .1 }, if-operands _ _ _ (c .before .before .before .before .before .before .before .pre .1 .0) (c .before .before .before .before .before .before .before .pre .1 .1) e))
+settle-settle-if-requires : (t : ℕ) → settle-lts.Need-settle-if-requires (settle-calls t) (settle-at t) settle.Post
+settle-settle-if-requires t c κs =
+    let s = c .before .before .before .before .before .before .before in
+    let e : kindOf (nodeWord (s .args .ws .now) (s .args .n) 0) ≡ If = sym (c .before .before .before .before .kind-of .ensures ∙ ap kindOf (c .before .before .before .before .before .node-word .ensures)) ∙ c .enum-told2 .given .1 in
+    (search needs, (record { good = s .pre .1 .0; within = s .pre .1 .1 }, if-operands _ _ _ (s .pre .1 .0) (s .pre .1 .1) e))
 
--- src/lib.rt:264:24
-settle-enum-told-3 : (t : ℕ) → settle-lts.Need-enum-told-3 (
-  node-word-reads.Asked,
-  node-word-reads.Learnt,
-  kind-of-reads.Asked,
-  kind-of-reads.Learnt,
-  settle-block-below t,
-  settle-block.Post,
-  settle-if-below t,
-  settle-if.Post,
-  settle-while-below t,
-  settle-while.Post,
-  settle-try-below t,
-  settle-try.Post,
-  operand-count-reads.Asked,
-  operand-count-reads.Learnt,
-  settle-list-below t,
-  settle-list.Post,
-  finish-reads.Asked,
-  finish-reads.Learnt,
-) (settle-at t) settle.Post
+settle-enum-told-3 : (t : ℕ) → settle-lts.Need-enum-told-3 (settle-calls t) (settle-at t) settle.Post
 settle-enum-told-3 t c = search needs
 
--- src/lib.rt:264:24
-settle-settle-while-requires : (t : ℕ) → settle-lts.Need-settle-while-requires (
-  node-word-reads.Asked,
-  node-word-reads.Learnt,
-  kind-of-reads.Asked,
-  kind-of-reads.Learnt,
-  settle-block-below t,
-  settle-block.Post,
-  settle-if-below t,
-  settle-if.Post,
-  settle-while-below t,
-  settle-while.Post,
-  settle-try-below t,
-  settle-try.Post,
-  operand-count-reads.Asked,
-  operand-count-reads.Learnt,
-  settle-list-below t,
-  settle-list.Post,
-  finish-reads.Asked,
-  finish-reads.Learnt,
-) (settle-at t) settle.Post
-settle-settle-while-requires t c κs = let e : kindOf (nodeWord (c .before .before .before .before .before .before .before .args .ws .now) (c .before .before .before .before .before .before .before .args .n) 0) ≡ While = sym (c .before .before .before .before .kind-of .ensures ∙ ap kindOf (c .before .before .before .before .before .node-word .ensures)) ∙ c .enum-told3 .given .1 in (search needs, (record { good = c .before .before .before .before .before .before .before .pre .1 .0; within = c .before .before .before .before .before .before .before .pre .1 .1 }, while-operands _ _ _ (c .before .before .before .before .before .before .before .pre .1 .0) (c .before .before .before .before .before .before .before .pre .1 .1) e))
+settle-settle-while-requires : (t : ℕ) → settle-lts.Need-settle-while-requires (settle-calls t) (settle-at t) settle.Post
+settle-settle-while-requires t c κs =
+    let s = c .before .before .before .before .before .before .before in
+    let e : kindOf (nodeWord (s .args .ws .now) (s .args .n) 0) ≡ While = sym (c .before .before .before .before .kind-of .ensures ∙ ap kindOf (c .before .before .before .before .before .node-word .ensures)) ∙ c .enum-told3 .given .1 in
+    (search needs, (record { good = s .pre .1 .0; within = s .pre .1 .1 }, while-operands _ _ _ (s .pre .1 .0) (s .pre .1 .1) e))
 
--- src/lib.rt:265:43
-settle-enum-told-4 : (t : ℕ) → settle-lts.Need-enum-told-4 (
-  node-word-reads.Asked,
-  node-word-reads.Learnt,
-  kind-of-reads.Asked,
-  kind-of-reads.Learnt,
-  settle-block-below t,
-  settle-block.Post,
-  settle-if-below t,
-  settle-if.Post,
-  settle-while-below t,
-  settle-while.Post,
-  settle-try-below t,
-  settle-try.Post,
-  operand-count-reads.Asked,
-  operand-count-reads.Learnt,
-  settle-list-below t,
-  settle-list.Post,
-  finish-reads.Asked,
-  finish-reads.Learnt,
-) (settle-at t) settle.Post
+settle-enum-told-4 : (t : ℕ) → settle-lts.Need-enum-told-4 (settle-calls t) (settle-at t) settle.Post
 settle-enum-told-4 t c = search needs
 
--- src/lib.rt:265:43
-settle-cast-settle-try : (t : ℕ) → settle-lts.Need-cast-settle-try (
-  node-word-reads.Asked,
-  node-word-reads.Learnt,
-  kind-of-reads.Asked,
-  kind-of-reads.Learnt,
-  settle-block-below t,
-  settle-block.Post,
-  settle-if-below t,
-  settle-if.Post,
-  settle-while-below t,
-  settle-while.Post,
-  settle-try-below t,
-  settle-try.Post,
-  operand-count-reads.Asked,
-  operand-count-reads.Learnt,
-  settle-list-below t,
-  settle-list.Post,
-  finish-reads.Asked,
-  finish-reads.Learnt,
-) (settle-at t) settle.Post
+settle-cast-settle-try : (t : ℕ) → settle-lts.Need-cast-settle-try (settle-calls t) (settle-at t) settle.Post
 settle-cast-settle-try t c = search needs
 
--- src/lib.rt:265:22
-settle-settle-try-requires : (t : ℕ) → settle-lts.Need-settle-try-requires (
-  node-word-reads.Asked,
-  node-word-reads.Learnt,
-  kind-of-reads.Asked,
-  kind-of-reads.Learnt,
-  settle-block-below t,
-  settle-block.Post,
-  settle-if-below t,
-  settle-if.Post,
-  settle-while-below t,
-  settle-while.Post,
-  settle-try-below t,
-  settle-try.Post,
-  operand-count-reads.Asked,
-  operand-count-reads.Learnt,
-  settle-list-below t,
-  settle-list.Post,
-  finish-reads.Asked,
-  finish-reads.Learnt,
-) (settle-at t) settle.Post
-settle-settle-try-requires t c κs = let e : kindOf (nodeWord (c .before .before .before .before .before .before .before .args .ws .now) (c .before .before .before .before .before .before .before .args .n) 0) ≡ Try = sym (c .before .before .before .before .kind-of .ensures ∙ ap kindOf (c .before .before .before .before .before .node-word .ensures)) ∙ c .enum-told4 .given .1 in (search needs, (record { good = c .before .before .before .before .before .before .before .pre .1 .0; within = c .before .before .before .before .before .before .before .pre .1 .1 }, try-operands _ _ _ (c .before .before .before .before .before .before .before .pre .1 .0) (c .before .before .before .before .before .before .before .pre .1 .1) e, rw (c .before .before .node-word3 .ensures) (node-names _ _ _ (c .before .before .before .before .before .before .before .pre .1 .0) (c .before .before .before .before .before .before .before .pre .1 .1) .caught e)))
+settle-settle-try-requires : (t : ℕ) → settle-lts.Need-settle-try-requires (settle-calls t) (settle-at t) settle.Post
+settle-settle-try-requires t c κs =
+    let s = c .before .before .before .before .before .before .before in
+    let e : kindOf (nodeWord (s .args .ws .now) (s .args .n) 0) ≡ Try = sym (c .before .before .before .before .kind-of .ensures ∙ ap kindOf (c .before .before .before .before .before .node-word .ensures)) ∙ c .enum-told4 .given .1 in
+    (search needs, (record { good = s .pre .1 .0; within = s .pre .1 .1 }, try-operands _ _ _ (s .pre .1 .0) (s .pre .1 .1) e, rw (c .before .before .node-word3 .ensures) (node-names _ _ _ (s .pre .1 .0) (s .pre .1 .1) .caught e)))
 
--- src/lib.rt:267:43
-settle-operand-count-requires : (t : ℕ) → settle-lts.Need-operand-count-requires (
-  node-word-reads.Asked,
-  node-word-reads.Learnt,
-  kind-of-reads.Asked,
-  kind-of-reads.Learnt,
-  settle-block-below t,
-  settle-block.Post,
-  settle-if-below t,
-  settle-if.Post,
-  settle-while-below t,
-  settle-while.Post,
-  settle-try-below t,
-  settle-try.Post,
-  operand-count-reads.Asked,
-  operand-count-reads.Learnt,
-  settle-list-below t,
-  settle-list.Post,
-  finish-reads.Asked,
-  finish-reads.Learnt,
-) (settle-at t) settle.Post
+settle-operand-count-requires : (t : ℕ) → settle-lts.Need-operand-count-requires (settle-calls t) (settle-at t) settle.Post
 settle-operand-count-requires t c κs = search needs
 
--- src/lib.rt:267:17
-settle-settle-list-requires : (t : ℕ) → settle-lts.Need-settle-list-requires (
-  node-word-reads.Asked,
-  node-word-reads.Learnt,
-  kind-of-reads.Asked,
-  kind-of-reads.Learnt,
-  settle-block-below t,
-  settle-block.Post,
-  settle-if-below t,
-  settle-if.Post,
-  settle-while-below t,
-  settle-while.Post,
-  settle-try-below t,
-  settle-try.Post,
-  operand-count-reads.Asked,
-  operand-count-reads.Learnt,
-  settle-list-below t,
-  settle-list.Post,
-  finish-reads.Asked,
-  finish-reads.Learnt,
-) (settle-at t) settle.Post
-settle-settle-list-requires t c κs = (search needs, (record { good = c .before .before .before .before .before .before .before .pre .1 .0; within = c .before .before .before .before .before .before .before .pre .1 .1 }, rw (c .operand-count .ensures, c .before .before .before .before .kind-of .ensures, c .before .before .before .before .before .node-word .ensures, c .before .before .node-word3 .ensures) (omega arith)))
+settle-settle-list-requires : (t : ℕ) → settle-lts.Need-settle-list-requires (settle-calls t) (settle-at t) settle.Post
+settle-settle-list-requires t c κs =
+    let s = c .before .before .before .before .before .before .before in
+    (search needs, (record { good = s .pre .1 .0; within = s .pre .1 .1 }, rw (c .operand-count .ensures, c .before .before .before .before .kind-of .ensures, c .before .before .before .before .before .node-word .ensures, c .before .before .node-word3 .ensures) (omega arith)))
 
--- src/lib.rt:268:13
-settle-finish-requires : (t : ℕ) → settle-lts.Need-finish-requires (
-  node-word-reads.Asked,
-  node-word-reads.Learnt,
-  kind-of-reads.Asked,
-  kind-of-reads.Learnt,
-  settle-block-below t,
-  settle-block.Post,
-  settle-if-below t,
-  settle-if.Post,
-  settle-while-below t,
-  settle-while.Post,
-  settle-try-below t,
-  settle-try.Post,
-  operand-count-reads.Asked,
-  operand-count-reads.Learnt,
-  settle-list-below t,
-  settle-list.Post,
-  finish-reads.Asked,
-  finish-reads.Learnt,
-) (settle-at t) settle.Post
-settle-finish-requires t c κs = let m = node-names _ _ _ (c .before .before .before .before .before .before .before .before .pre .1 .0) (c .before .before .before .before .before .before .before .before .pre .1 .1) in rw (c .before .before .before .before .before .kind-of .ensures, c .before .before .before .before .before .before .node-word .ensures, c .before .before .before .before .node-word2 .ensures) (m .read, m .assigned)
+settle-finish-requires : (t : ℕ) → settle-lts.Need-finish-requires (settle-calls t) (settle-at t) settle.Post
+settle-finish-requires t c κs =
+    let s = c .before .before .before .before .before .before .before .before in
+    let m = node-names _ _ _ (s .pre .1 .0) (s .pre .1 .1) in
+    rw (c .before .before .before .before .before .kind-of .ensures, c .before .before .before .before .before .before .node-word .ensures, c .before .before .before .before .node-word2 .ensures) (m .read, m .assigned)
 
--- src/lib.rt:254:1
-settle-returns : (t : ℕ) → settle-lts.Need-returns (
-  node-word-reads.Asked,
-  node-word-reads.Learnt,
-  kind-of-reads.Asked,
-  kind-of-reads.Learnt,
-  settle-block-below t,
-  settle-block.Post,
-  settle-if-below t,
-  settle-if.Post,
-  settle-while-below t,
-  settle-while.Post,
-  settle-try-below t,
-  settle-try.Post,
-  operand-count-reads.Asked,
-  operand-count-reads.Learnt,
-  settle-list-below t,
-  settle-list.Post,
-  finish-reads.Asked,
-  finish-reads.Learnt,
-) (settle-at t) settle.Post
-settle-returns t c = let e : kindOf (nodeWord (c .before .before .before .before .before .before .before .before .args .ws .now) (c .before .before .before .before .before .before .before .before .args .n) 0) ≡ Block = sym (c .before .before .before .before .before .kind-of .ensures ∙ ap kindOf (c .before .before .before .before .before .before .node-word .ensures)) ∙ c .before .enum-told .given .1 in c .settle-block .ensures ∙ rw (c .before .before .before .before .node-word2 .ensures) (after-block _ _ _ (c .before .before .before .before .before .before .before .before .pre .1 .0) (c .before .before .before .before .before .before .before .before .pre .1 .1) _ e)
+settle-returns : (t : ℕ) → settle-lts.Need-returns (settle-calls t) (settle-at t) settle.Post
+settle-returns t c =
+    let s = c .before .before .before .before .before .before .before .before in
+    let e : kindOf (nodeWord (s .args .ws .now) (s .args .n) 0) ≡ Block = sym (c .before .before .before .before .before .kind-of .ensures ∙ ap kindOf (c .before .before .before .before .before .before .node-word .ensures)) ∙ c .before .enum-told .given .1 in
+    c .settle-block .ensures ∙ rw (c .before .before .before .before .node-word2 .ensures) (after-block _ _ _ (s .pre .1 .0) (s .pre .1 .1) _ e)
 
--- src/lib.rt:254:1
-settle-returns-2 : (t : ℕ) → settle-lts.Need-returns-2 (
-  node-word-reads.Asked,
-  node-word-reads.Learnt,
-  kind-of-reads.Asked,
-  kind-of-reads.Learnt,
-  settle-block-below t,
-  settle-block.Post,
-  settle-if-below t,
-  settle-if.Post,
-  settle-while-below t,
-  settle-while.Post,
-  settle-try-below t,
-  settle-try.Post,
-  operand-count-reads.Asked,
-  operand-count-reads.Learnt,
-  settle-list-below t,
-  settle-list.Post,
-  finish-reads.Asked,
-  finish-reads.Learnt,
-) (settle-at t) settle.Post
-settle-returns-2 t c = let e : kindOf (nodeWord (c .before .before .before .before .before .before .before .before .args .ws .now) (c .before .before .before .before .before .before .before .before .args .n) 0) ≡ If = sym (c .before .before .before .before .before .kind-of .ensures ∙ ap kindOf (c .before .before .before .before .before .before .node-word .ensures)) ∙ c .before .enum-told2 .given .1 in c .settle-if .ensures ∙ after-if _ _ _ (c .before .before .before .before .before .before .before .before .pre .1 .0) (c .before .before .before .before .before .before .before .before .pre .1 .1) _ e
+settle-returns-2 : (t : ℕ) → settle-lts.Need-returns-2 (settle-calls t) (settle-at t) settle.Post
+settle-returns-2 t c =
+    let s = c .before .before .before .before .before .before .before .before in
+    let e : kindOf (nodeWord (s .args .ws .now) (s .args .n) 0) ≡ If = sym (c .before .before .before .before .before .kind-of .ensures ∙ ap kindOf (c .before .before .before .before .before .before .node-word .ensures)) ∙ c .before .enum-told2 .given .1 in
+    c .settle-if .ensures ∙ after-if _ _ _ (s .pre .1 .0) (s .pre .1 .1) _ e
 
--- src/lib.rt:254:1
-settle-returns-3 : (t : ℕ) → settle-lts.Need-returns-3 (
-  node-word-reads.Asked,
-  node-word-reads.Learnt,
-  kind-of-reads.Asked,
-  kind-of-reads.Learnt,
-  settle-block-below t,
-  settle-block.Post,
-  settle-if-below t,
-  settle-if.Post,
-  settle-while-below t,
-  settle-while.Post,
-  settle-try-below t,
-  settle-try.Post,
-  operand-count-reads.Asked,
-  operand-count-reads.Learnt,
-  settle-list-below t,
-  settle-list.Post,
-  finish-reads.Asked,
-  finish-reads.Learnt,
-) (settle-at t) settle.Post
-settle-returns-3 t c = let e : kindOf (nodeWord (c .before .before .before .before .before .before .before .before .args .ws .now) (c .before .before .before .before .before .before .before .before .args .n) 0) ≡ While = sym (c .before .before .before .before .before .kind-of .ensures ∙ ap kindOf (c .before .before .before .before .before .before .node-word .ensures)) ∙ c .before .enum-told3 .given .1 in c .settle-while .ensures ∙ after-while _ _ _ (c .before .before .before .before .before .before .before .before .pre .1 .0) (c .before .before .before .before .before .before .before .before .pre .1 .1) _ e
+settle-returns-3 : (t : ℕ) → settle-lts.Need-returns-3 (settle-calls t) (settle-at t) settle.Post
+settle-returns-3 t c =
+    let s = c .before .before .before .before .before .before .before .before in
+    let e : kindOf (nodeWord (s .args .ws .now) (s .args .n) 0) ≡ While = sym (c .before .before .before .before .before .kind-of .ensures ∙ ap kindOf (c .before .before .before .before .before .before .node-word .ensures)) ∙ c .before .enum-told3 .given .1 in
+    c .settle-while .ensures ∙ after-while _ _ _ (s .pre .1 .0) (s .pre .1 .1) _ e
 
--- src/lib.rt:254:1
-settle-returns-4 : (t : ℕ) → settle-lts.Need-returns-4 (
-  node-word-reads.Asked,
-  node-word-reads.Learnt,
-  kind-of-reads.Asked,
-  kind-of-reads.Learnt,
-  settle-block-below t,
-  settle-block.Post,
-  settle-if-below t,
-  settle-if.Post,
-  settle-while-below t,
-  settle-while.Post,
-  settle-try-below t,
-  settle-try.Post,
-  operand-count-reads.Asked,
-  operand-count-reads.Learnt,
-  settle-list-below t,
-  settle-list.Post,
-  finish-reads.Asked,
-  finish-reads.Learnt,
-) (settle-at t) settle.Post
-settle-returns-4 t c = let e : kindOf (nodeWord (c .before .before .before .before .before .before .before .before .args .ws .now) (c .before .before .before .before .before .before .before .before .args .n) 0) ≡ Try = sym (c .before .before .before .before .before .kind-of .ensures ∙ ap kindOf (c .before .before .before .before .before .before .node-word .ensures)) ∙ c .before .enum-told4 .given .1 in c .settle-try .ensures ∙ rw (c .before .before .before .node-word3 .ensures) (after-try _ _ _ (c .before .before .before .before .before .before .before .before .pre .1 .0) (c .before .before .before .before .before .before .before .before .pre .1 .1) _ e)
+settle-returns-4 : (t : ℕ) → settle-lts.Need-returns-4 (settle-calls t) (settle-at t) settle.Post
+settle-returns-4 t c =
+    let s = c .before .before .before .before .before .before .before .before in
+    let e : kindOf (nodeWord (s .args .ws .now) (s .args .n) 0) ≡ Try = sym (c .before .before .before .before .before .kind-of .ensures ∙ ap kindOf (c .before .before .before .before .before .before .node-word .ensures)) ∙ c .before .enum-told4 .given .1 in
+    c .settle-try .ensures ∙ rw (c .before .before .before .node-word3 .ensures) (after-try _ _ _ (s .pre .1 .0) (s .pre .1 .1) _ e)
 
--- src/lib.rt:254:1
-settle-returns-5 : (t : ℕ) → settle-lts.Need-returns-5 (
-  node-word-reads.Asked,
-  node-word-reads.Learnt,
-  kind-of-reads.Asked,
-  kind-of-reads.Learnt,
-  settle-block-below t,
-  settle-block.Post,
-  settle-if-below t,
-  settle-if.Post,
-  settle-while-below t,
-  settle-while.Post,
-  settle-try-below t,
-  settle-try.Post,
-  operand-count-reads.Asked,
-  operand-count-reads.Learnt,
-  settle-list-below t,
-  settle-list.Post,
-  finish-reads.Asked,
-  finish-reads.Learnt,
-) (settle-at t) settle.Post
-settle-returns-5 t c = let k = rw (c .before .before .before .before .before .before .kind-of .ensures, c .before .before .before .before .before .before .before .node-word .ensures) at (c .before .before .before .match .keys5) in c .finish .ensures ∙ rw (c .before .settle-list .ensures, c .before .before .operand-count .ensures, c .before .before .before .before .before .before .kind-of .ensures, c .before .before .before .before .before .before .before .node-word .ensures, c .before .before .before .before .before .node-word2 .ensures, c .before .before .before .before .node-word3 .ensures) (after-plain _ _ _ (c .before .before .before .before .before .before .before .before .before .pre .1 .0) (c .before .before .before .before .before .before .before .before .before .pre .1 .1) _ k)
+settle-returns-5 : (t : ℕ) → settle-lts.Need-returns-5 (settle-calls t) (settle-at t) settle.Post
+settle-returns-5 t c =
+    let s = c .before .before .before .before .before .before .before .before .before in
+    let k = rw (c .before .before .before .before .before .before .kind-of .ensures, c .before .before .before .before .before .before .before .node-word .ensures) at (c .before .before .before .match .keys5) in
+    c .finish .ensures ∙ rw (c .before .settle-list .ensures, c .before .before .operand-count .ensures, c .before .before .before .before .before .before .kind-of .ensures, c .before .before .before .before .before .before .before .node-word .ensures, c .before .before .before .before .before .node-word2 .ensures, c .before .before .before .before .node-word3 .ensures) (after-plain _ _ _ (s .pre .1 .0) (s .pre .1 .1) _ k)
 
--- src/lib.rt:205:9
-settle-block-has-requires : (t : ℕ) → settle-block-lts.Need-has-requires (
-  has-reads.Asked,
-  has-reads.Learnt,
-  without-reads.Asked,
-  without-reads.Learnt,
-  settle-one-below t,
-  settle-one.Post,
-  given-back-reads.Asked,
-  given-back-reads.Learnt,
-) (settle-block-at t) settle-block.Post
+settle-block-has-requires : (t : ℕ) → settle-block-lts.Need-has-requires (settle-block-calls t) (settle-block-at t) settle-block.Post
 settle-block-has-requires t c κs = search needs
 
--- src/lib.rt:206:37
-settle-block-without-requires : (t : ℕ) → settle-block-lts.Need-without-requires (
-  has-reads.Asked,
-  has-reads.Learnt,
-  without-reads.Asked,
-  without-reads.Learnt,
-  settle-one-below t,
-  settle-one.Post,
-  given-back-reads.Asked,
-  given-back-reads.Learnt,
-) (settle-block-at t) settle-block.Post
+settle-block-without-requires : (t : ℕ) → settle-block-lts.Need-without-requires (settle-block-calls t) (settle-block-at t) settle-block.Post
 settle-block-without-requires t c κs = search needs
 
--- src/lib.rt:206:9
-settle-block-settle-one-requires : (t : ℕ) → settle-block-lts.Need-settle-one-requires (
-  has-reads.Asked,
-  has-reads.Learnt,
-  without-reads.Asked,
-  without-reads.Learnt,
-  settle-one-below t,
-  settle-one.Post,
-  given-back-reads.Asked,
-  given-back-reads.Learnt,
-) (settle-block-at t) settle-block.Post
+settle-block-settle-one-requires : (t : ℕ) → settle-block-lts.Need-settle-one-requires (settle-block-calls t) (settle-block-at t) settle-block.Post
 settle-block-settle-one-requires t c κs = search needs
 
--- src/lib.rt:207:5
-settle-block-given-back-requires : (t : ℕ) → settle-block-lts.Need-given-back-requires (
-  has-reads.Asked,
-  has-reads.Learnt,
-  without-reads.Asked,
-  without-reads.Learnt,
-  settle-one-below t,
-  settle-one.Post,
-  given-back-reads.Asked,
-  given-back-reads.Learnt,
-) (settle-block-at t) settle-block.Post
+settle-block-given-back-requires : (t : ℕ) → settle-block-lts.Need-given-back-requires (settle-block-calls t) (settle-block-at t) settle-block.Post
 settle-block-given-back-requires t c κs = search needs
 
--- src/lib.rt:201:1
-settle-block-returns : (t : ℕ) → settle-block-lts.Need-returns (
-  has-reads.Asked,
-  has-reads.Learnt,
-  without-reads.Asked,
-  without-reads.Learnt,
-  settle-one-below t,
-  settle-one.Post,
-  given-back-reads.Asked,
-  given-back-reads.Learnt,
-) (settle-block-at t) settle-block.Post
+settle-block-returns : (t : ℕ) → settle-block-lts.Need-returns (settle-block-calls t) (settle-block-at t) settle-block.Post
 unfolding inBlock
 settle-block-returns t c = c .given-back .ensures ∙ rw (c .before .before .before .has .ensures, c .before .settle-one .ensures, c .before .before .without .ensures)
 
--- src/lib.rt:215:9
-settle-if-settle-one-requires : (t : ℕ) → settle-if-lts.Need-settle-one-requires (
-  settle-one-below t,
-  settle-one.Post,
-  both-reads.Asked,
-  both-reads.Learnt,
-) (settle-if-at t) settle-if.Post
+settle-if-settle-one-requires : (t : ℕ) → settle-if-lts.Need-settle-one-requires (settle-if-calls t) (settle-if-at t) settle-if.Post
 settle-if-settle-one-requires t c κs = search needs
 
--- src/lib.rt:217:9
-settle-if-returns : (t : ℕ) → settle-if-lts.Need-returns (
-  settle-one-below t,
-  settle-one.Post,
-  both-reads.Asked,
-  both-reads.Learnt,
-) (settle-if-at t) settle-if.Post
+settle-if-returns : (t : ℕ) → settle-if-lts.Need-returns (settle-if-calls t) (settle-if-at t) settle-if.Post
 settle-if-returns t c = if-stop _ _ _ _ _ (c .before .before .settle-one .ensures) _ _ (not-true _ (c .if1 .taken))
 
--- src/lib.rt:220:9
-settle-if-settle-one-requires-2 : (t : ℕ) → settle-if-lts.Need-settle-one-requires-2 (
-  settle-one-below t,
-  settle-one.Post,
-  both-reads.Asked,
-  both-reads.Learnt,
-) (settle-if-at t) settle-if.Post
+settle-if-settle-one-requires-2 : (t : ℕ) → settle-if-lts.Need-settle-one-requires-2 (settle-if-calls t) (settle-if-at t) settle-if.Post
 settle-if-settle-one-requires-2 t c κs = (omega arith, (c .before .before .before .before .before .pre .1 .0, omega (arith, c .before .before .before .before .before .pre .1 .1)))
 
--- src/lib.rt:221:9
-settle-if-settle-one-requires-3 : (t : ℕ) → settle-if-lts.Need-settle-one-requires-3 (
-  settle-one-below t,
-  settle-one.Post,
-  both-reads.Asked,
-  both-reads.Learnt,
-) (settle-if-at t) settle-if.Post
+settle-if-settle-one-requires-3 : (t : ℕ) → settle-if-lts.Need-settle-one-requires-3 (settle-if-calls t) (settle-if-at t) settle-if.Post
 settle-if-settle-one-requires-3 t c κs = (omega arith, (c .before .before .before .before .before .before .pre .1 .0, omega (arith, c .before .before .before .before .before .before .pre .1 .1)))
 
--- src/lib.rt:222:5
-settle-if-both-requires : (t : ℕ) → settle-if-lts.Need-both-requires (
-  settle-one-below t,
-  settle-one.Post,
-  both-reads.Asked,
-  both-reads.Learnt,
-) (settle-if-at t) settle-if.Post
+settle-if-both-requires : (t : ℕ) → settle-if-lts.Need-both-requires (settle-if-calls t) (settle-if-at t) settle-if.Post
 settle-if-both-requires t c κs = search needs
 
--- src/lib.rt:211:1
-settle-if-returns-2 : (t : ℕ) → settle-if-lts.Need-returns-2 (
-  settle-one-below t,
-  settle-one.Post,
-  both-reads.Asked,
-  both-reads.Learnt,
-) (settle-if-at t) settle-if.Post
+settle-if-returns-2 : (t : ℕ) → settle-if-lts.Need-returns-2 (settle-if-calls t) (settle-if-at t) settle-if.Post
 settle-if-returns-2 t c = if-on _ _ _ _ _ (c .before .before .before .before .before .before .settle-one .ensures) _ _ _ (not-false _ (c .before .before .before .before .if1 .left)) (c .both .ensures ∙ rw (c .before .before .settle-one2 .ensures, c .before .settle-one3 .ensures))
 
 abbrev settle-list-Inv-loop : settle-list-lts.InvT-loop
@@ -767,244 +290,76 @@ settle-list-Inv-loop ws l n count set₀ i₀ set i = (i ≤ count) × (settings
 abbrev settle-list-μ-loop : settle-list-lts.MeasureT-loop
 settle-list-μ-loop ws l n count set₀ i₀ set i = i
 
--- src/lib.rt:189:5
-settle-list-loop-holds : (t : ℕ) → settle-list-lts.Need-loop-holds (
-  settle-one-below t,
-  settle-one.Post,
-  passed-reads.Asked,
-  passed-reads.Learnt,
-) (settle-list-at t) settle-list.Post settle-list-Inv-loop settle-list-μ-loop
+settle-list-loop-holds : (t : ℕ) → settle-list-lts.Need-loop-holds (settle-list-calls t) (settle-list-at t) settle-list.Post settle-list-Inv-loop settle-list-μ-loop
 settle-list-loop-holds t c = (omega arith, refl)
 
--- src/lib.rt:190:9
-settle-list-sub-i : (t : ℕ) → settle-list-lts.Need-sub-i (
-  settle-one-below t,
-  settle-one.Post,
-  passed-reads.Asked,
-  passed-reads.Learnt,
-) (settle-list-at t) settle-list.Post settle-list-Inv-loop settle-list-μ-loop
+settle-list-sub-i : (t : ℕ) → settle-list-lts.Need-sub-i (settle-list-calls t) (settle-list-at t) settle-list.Post settle-list-Inv-loop settle-list-μ-loop
 settle-list-sub-i t c = search needs
 
--- src/lib.rt:191:13
-settle-list-settle-one-requires : (t : ℕ) → settle-list-lts.Need-settle-one-requires (
-  settle-one-below t,
-  settle-one.Post,
-  passed-reads.Asked,
-  passed-reads.Learnt,
-) (settle-list-at t) settle-list.Post settle-list-Inv-loop settle-list-μ-loop
+settle-list-settle-one-requires : (t : ℕ) → settle-list-lts.Need-settle-one-requires (settle-list-calls t) (settle-list-at t) settle-list.Post settle-list-Inv-loop settle-list-μ-loop
 settle-list-settle-one-requires t c κs = (omega arith, (c .before .before .before .pre .1 .0, omega (arith, c .before .loop .inv .0, c .before .before .before .pre .1 .1)))
 
--- src/lib.rt:193:13
-settle-list-returns : (t : ℕ) → settle-list-lts.Need-returns (
-  settle-one-below t,
-  settle-one.Post,
-  passed-reads.Asked,
-  passed-reads.Learnt,
-) (settle-list-at t) settle-list.Post settle-list-Inv-loop settle-list-μ-loop
+settle-list-returns : (t : ℕ) → settle-list-lts.Need-returns (settle-list-calls t) (settle-list-at t) settle-list.Post settle-list-Inv-loop settle-list-μ-loop
 settle-list-returns t c = list-stop _ _ _ _ _ _ (search needs) (c .before .before .settle-one .ensures) (not-true _ (c .if1 .taken)) ∙ c .before .before .before .before .loop .inv .1
 
--- src/lib.rt:189:5
-settle-list-loop-less : (t : ℕ) → settle-list-lts.Need-loop-less (
-  settle-one-below t,
-  settle-one.Post,
-  passed-reads.Asked,
-  passed-reads.Learnt,
-) (settle-list-at t) settle-list.Post settle-list-Inv-loop settle-list-μ-loop
+settle-list-loop-less : (t : ℕ) → settle-list-lts.Need-loop-less (settle-list-calls t) (settle-list-at t) settle-list.Post settle-list-Inv-loop settle-list-μ-loop
 settle-list-loop-less t c = search needs
 
--- src/lib.rt:189:5
-settle-list-loop-again : (t : ℕ) → settle-list-lts.Need-loop-again (
-  settle-one-below t,
-  settle-one.Post,
-  passed-reads.Asked,
-  passed-reads.Learnt,
-) (settle-list-at t) settle-list.Post settle-list-Inv-loop settle-list-μ-loop
+settle-list-loop-again : (t : ℕ) → settle-list-lts.Need-loop-again (settle-list-calls t) (settle-list-at t) settle-list.Post settle-list-Inv-loop settle-list-μ-loop
 settle-list-loop-again t c = (search needs, list-on _ _ _ _ (c .before .before .before .settle-one .result .place) _ (search needs) (c .before .before .before .settle-one .ensures) (not-false _ (c .before .if1 .left)) ∙ c .before .before .before .before .before .loop .inv .1)
 
--- src/lib.rt:197:5
-settle-list-passed-requires : (t : ℕ) → settle-list-lts.Need-passed-requires (
-  settle-one-below t,
-  settle-one.Post,
-  passed-reads.Asked,
-  passed-reads.Learnt,
-) (settle-list-at t) settle-list.Post settle-list-Inv-loop settle-list-μ-loop
+settle-list-passed-requires : (t : ℕ) → settle-list-lts.Need-passed-requires (settle-list-calls t) (settle-list-at t) settle-list.Post settle-list-Inv-loop settle-list-μ-loop
 settle-list-passed-requires t c κs = search needs
 
--- src/lib.rt:183:1
-settle-list-returns-2 : (t : ℕ) → settle-list-lts.Need-returns-2 (
-  settle-one-below t,
-  settle-one.Post,
-  passed-reads.Asked,
-  passed-reads.Learnt,
-) (settle-list-at t) settle-list.Post settle-list-Inv-loop settle-list-μ-loop
+settle-list-returns-2 : (t : ℕ) → settle-list-lts.Need-returns-2 (settle-list-calls t) (settle-list-at t) settle-list.Post settle-list-Inv-loop settle-list-μ-loop
 settle-list-returns-2 t c = c .passed .ensures ∙ list-end _ _ _ (omega arith) ∙ c .before .before .loop .inv .1
 
--- src/lib.rt:178:9
-settle-one-operand-place-requires : (t : ℕ) → settle-one-lts.Need-operand-place-requires (
-  operand-place-reads.Asked,
-  operand-place-reads.Learnt,
-  settle-below t,
-  settle.Post,
-) (settle-one-at t) settle-one.Post
+settle-one-operand-place-requires : (t : ℕ) → settle-one-lts.Need-operand-place-requires (settle-one-calls t) (settle-one-at t) settle-one.Post
 settle-one-operand-place-requires t c κs = (c .before .pre .1 .0 .good, c .before .pre .1 .0 .within, c .before .pre .1 .1)
 
--- src/lib.rt:179:5
-settle-one-settle-requires : (t : ℕ) → settle-one-lts.Need-settle-requires (
-  operand-place-reads.Asked,
-  operand-place-reads.Learnt,
-  settle-below t,
-  settle.Post,
-) (settle-one-at t) settle-one.Post
-settle-one-settle-requires t c κs = (omega (arith, c .operand-place .ensures .1), (c .before .before .pre .1 .0 .good, omega (arith, c .operand-place .ensures .1, c .before .before .pre .1 .0 .within)))
+settle-one-settle-requires : (t : ℕ) → settle-one-lts.Need-settle-requires (settle-one-calls t) (settle-one-at t) settle-one.Post
+settle-one-settle-requires t c κs =
+    let s = c .before .before in
+    (omega (arith, c .operand-place .ensures .1), (s .pre .1 .0 .good, omega (arith, c .operand-place .ensures .1, s .pre .1 .0 .within)))
 
--- src/lib.rt:174:1
-settle-one-returns : (t : ℕ) → settle-one-lts.Need-returns (
-  operand-place-reads.Asked,
-  operand-place-reads.Learnt,
-  settle-below t,
-  settle.Post,
-) (settle-one-at t) settle-one.Post
+settle-one-returns : (t : ℕ) → settle-one-lts.Need-returns (settle-one-calls t) (settle-one-at t) settle-one.Post
 settle-one-returns t c = rw (c .before .operand-place .ensures .0) at (c .settle .ensures)
 
--- src/lib.rt:247:9
-settle-try-has-requires : (t : ℕ) → settle-try-lts.Need-has-requires (
-  has-reads.Asked,
-  has-reads.Learnt,
-  settle-one-below t,
-  settle-one.Post,
-  with-reads.Asked,
-  with-reads.Learnt,
-  given-back-reads.Asked,
-  given-back-reads.Learnt,
-  both-reads.Asked,
-  both-reads.Learnt,
-) (settle-try-at t) settle-try.Post
+settle-try-has-requires : (t : ℕ) → settle-try-lts.Need-has-requires (settle-try-calls t) (settle-try-at t) settle-try.Post
 settle-try-has-requires t c κs = search needs
 
--- src/lib.rt:248:9
-settle-try-settle-one-requires : (t : ℕ) → settle-try-lts.Need-settle-one-requires (
-  has-reads.Asked,
-  has-reads.Learnt,
-  settle-one-below t,
-  settle-one.Post,
-  with-reads.Asked,
-  with-reads.Learnt,
-  given-back-reads.Asked,
-  given-back-reads.Learnt,
-  both-reads.Asked,
-  both-reads.Learnt,
-) (settle-try-at t) settle-try.Post
+settle-try-settle-one-requires : (t : ℕ) → settle-try-lts.Need-settle-one-requires (settle-try-calls t) (settle-try-at t) settle-try.Post
 settle-try-settle-one-requires t c κs = search needs
 
--- src/lib.rt:249:37
-settle-try-with-requires : (t : ℕ) → settle-try-lts.Need-with-requires (
-  has-reads.Asked,
-  has-reads.Learnt,
-  settle-one-below t,
-  settle-one.Post,
-  with-reads.Asked,
-  with-reads.Learnt,
-  given-back-reads.Asked,
-  given-back-reads.Learnt,
-  both-reads.Asked,
-  both-reads.Learnt,
-) (settle-try-at t) settle-try.Post
+settle-try-with-requires : (t : ℕ) → settle-try-lts.Need-with-requires (settle-try-calls t) (settle-try-at t) settle-try.Post
 settle-try-with-requires t c κs = search needs
 
--- src/lib.rt:249:9
-settle-try-settle-one-requires-2 : (t : ℕ) → settle-try-lts.Need-settle-one-requires-2 (
-  has-reads.Asked,
-  has-reads.Learnt,
-  settle-one-below t,
-  settle-one.Post,
-  with-reads.Asked,
-  with-reads.Learnt,
-  given-back-reads.Asked,
-  given-back-reads.Learnt,
-  both-reads.Asked,
-  both-reads.Learnt,
-) (settle-try-at t) settle-try.Post
+settle-try-settle-one-requires-2 : (t : ℕ) → settle-try-lts.Need-settle-one-requires-2 (settle-try-calls t) (settle-try-at t) settle-try.Post
 settle-try-settle-one-requires-2 t c κs = (omega arith, (c .before .before .before .before .pre .1 .0, omega (arith, c .before .before .before .before .pre .1 .1)))
 
--- src/lib.rt:250:13
-settle-try-given-back-requires : (t : ℕ) → settle-try-lts.Need-given-back-requires (
-  has-reads.Asked,
-  has-reads.Learnt,
-  settle-one-below t,
-  settle-one.Post,
-  with-reads.Asked,
-  with-reads.Learnt,
-  given-back-reads.Asked,
-  given-back-reads.Learnt,
-  both-reads.Asked,
-  both-reads.Learnt,
-) (settle-try-at t) settle-try.Post
+settle-try-given-back-requires : (t : ℕ) → settle-try-lts.Need-given-back-requires (settle-try-calls t) (settle-try-at t) settle-try.Post
 settle-try-given-back-requires t c κs = search needs
 
--- src/lib.rt:250:5
-settle-try-both-requires : (t : ℕ) → settle-try-lts.Need-both-requires (
-  has-reads.Asked,
-  has-reads.Learnt,
-  settle-one-below t,
-  settle-one.Post,
-  with-reads.Asked,
-  with-reads.Learnt,
-  given-back-reads.Asked,
-  given-back-reads.Learnt,
-  both-reads.Asked,
-  both-reads.Learnt,
-) (settle-try-at t) settle-try.Post
+settle-try-both-requires : (t : ℕ) → settle-try-lts.Need-both-requires (settle-try-calls t) (settle-try-at t) settle-try.Post
 settle-try-both-requires t c κs = search needs
 
--- src/lib.rt:243:1
-settle-try-returns : (t : ℕ) → settle-try-lts.Need-returns (
-  has-reads.Asked,
-  has-reads.Learnt,
-  settle-one-below t,
-  settle-one.Post,
-  with-reads.Asked,
-  with-reads.Learnt,
-  given-back-reads.Asked,
-  given-back-reads.Learnt,
-  both-reads.Asked,
-  both-reads.Learnt,
-) (settle-try-at t) settle-try.Post
+settle-try-returns : (t : ℕ) → settle-try-lts.Need-returns (settle-try-calls t) (settle-try-at t) settle-try.Post
 unfolding inTry
 settle-try-returns t c = c .both .ensures ∙ rw (c .before .given-back .ensures, c .before .before .before .before .settle-one .ensures, c .before .before .settle-one2 .ensures, c .before .before .before .before .before .has .ensures, c .before .before .before .with .ensures)
 
--- src/lib.rt:230:9
-settle-while-settle-one-requires : (t : ℕ) → settle-while-lts.Need-settle-one-requires (
-  settle-one-below t,
-  settle-one.Post,
-) (settle-while-at t) settle-while.Post
+settle-while-settle-one-requires : (t : ℕ) → settle-while-lts.Need-settle-one-requires (settle-while-calls t) (settle-while-at t) settle-while.Post
 settle-while-settle-one-requires t c κs = search needs
 
--- src/lib.rt:232:9
-settle-while-returns : (t : ℕ) → settle-while-lts.Need-returns (
-  settle-one-below t,
-  settle-one.Post,
-) (settle-while-at t) settle-while.Post
+settle-while-returns : (t : ℕ) → settle-while-lts.Need-returns (settle-while-calls t) (settle-while-at t) settle-while.Post
 settle-while-returns t c = while-stop _ _ _ _ _ (c .before .before .settle-one .ensures) _ (not-true _ (c .if1 .taken))
 
--- src/lib.rt:235:9
-settle-while-settle-one-requires-2 : (t : ℕ) → settle-while-lts.Need-settle-one-requires-2 (
-  settle-one-below t,
-  settle-one.Post,
-) (settle-while-at t) settle-while.Post
+settle-while-settle-one-requires-2 : (t : ℕ) → settle-while-lts.Need-settle-one-requires-2 (settle-while-calls t) (settle-while-at t) settle-while.Post
 settle-while-settle-one-requires-2 t c κs = (omega arith, (c .before .before .before .before .before .pre .1 .0, omega (arith, c .before .before .before .before .before .pre .1 .1)))
 
--- src/lib.rt:237:9
-settle-while-returns-2 : (t : ℕ) → settle-while-lts.Need-returns-2 (
-  settle-one-below t,
-  settle-one.Post,
-) (settle-while-at t) settle-while.Post
+settle-while-returns-2 : (t : ℕ) → settle-while-lts.Need-returns-2 (settle-while-calls t) (settle-while-at t) settle-while.Post
 settle-while-returns-2 t c = while-body _ _ _ _ _ (c .before .before .before .before .before .before .settle-one .ensures) _ _ _ _ (not-false _ (c .before .before .before .before .if1 .left)) (c .before .before .settle-one2 .ensures) (not-true _ (c .if2 .taken))
 
--- src/lib.rt:226:1
-settle-while-returns-3 : (t : ℕ) → settle-while-lts.Need-returns-3 (
-  settle-one-below t,
-  settle-one.Post,
-) (settle-while-at t) settle-while.Post
+settle-while-returns-3 : (t : ℕ) → settle-while-lts.Need-returns-3 (settle-while-calls t) (settle-while-at t) settle-while.Post
 settle-while-returns-3 t c = while-end _ _ _ _ _ (c .before .before .before .before .before .before .settle-one .ensures) _ _ _ _ (not-false _ (c .before .before .before .before .if1 .left)) (c .before .before .settle-one2 .ensures) (not-false _ (c .if2 .left))
 
 pub +settle+settle-block+settle-if+settle-list+settle-one+settle-try+settle-while-spec :
@@ -1018,26 +373,7 @@ pub +settle+settle-block+settle-if+settle-list+settle-one+settle-try+settle-whil
     μ-settle-one
     μ-settle-try
     μ-settle-while
-    (λ t. settle-lts.spec (
-      node-word-reads.Asked,
-      node-word-reads.Learnt,
-      kind-of-reads.Asked,
-      kind-of-reads.Learnt,
-      settle-block-below t,
-      settle-block.Post,
-      settle-if-below t,
-      settle-if.Post,
-      settle-while-below t,
-      settle-while.Post,
-      settle-try-below t,
-      settle-try.Post,
-      operand-count-reads.Asked,
-      operand-count-reads.Learnt,
-      settle-list-below t,
-      settle-list.Post,
-      finish-reads.Asked,
-      finish-reads.Learnt,
-    )
+    (λ t. settle-lts.spec (settle-calls t)
     (settle-at t)
     settle.Post
     (settle-node-word-requires t)
@@ -1062,16 +398,7 @@ pub +settle+settle-block+settle-if+settle-list+settle-one+settle-try+settle-whil
     (settle-returns-3 t)
     (settle-returns-4 t)
     (settle-returns-5 t))
-    (λ t. settle-block-lts.spec (
-      has-reads.Asked,
-      has-reads.Learnt,
-      without-reads.Asked,
-      without-reads.Learnt,
-      settle-one-below t,
-      settle-one.Post,
-      given-back-reads.Asked,
-      given-back-reads.Learnt,
-    )
+    (λ t. settle-block-lts.spec (settle-block-calls t)
     (settle-block-at t)
     settle-block.Post
     (settle-block-has-requires t)
@@ -1079,12 +406,7 @@ pub +settle+settle-block+settle-if+settle-list+settle-one+settle-try+settle-whil
     (settle-block-settle-one-requires t)
     (settle-block-given-back-requires t)
     (settle-block-returns t))
-    (λ t. settle-if-lts.spec (
-      settle-one-below t,
-      settle-one.Post,
-      both-reads.Asked,
-      both-reads.Learnt,
-    )
+    (λ t. settle-if-lts.spec (settle-if-calls t)
     (settle-if-at t)
     settle-if.Post
     (settle-if-settle-one-requires t)
@@ -1093,12 +415,7 @@ pub +settle+settle-block+settle-if+settle-list+settle-one+settle-try+settle-whil
     (settle-if-settle-one-requires-3 t)
     (settle-if-both-requires t)
     (settle-if-returns-2 t))
-    (λ t. settle-list-lts.spec (
-      settle-one-below t,
-      settle-one.Post,
-      passed-reads.Asked,
-      passed-reads.Learnt,
-    )
+    (λ t. settle-list-lts.spec (settle-list-calls t)
     (settle-list-at t)
     settle-list.Post
     settle-list-Inv-loop
@@ -1111,29 +428,13 @@ pub +settle+settle-block+settle-if+settle-list+settle-one+settle-try+settle-whil
     (settle-list-loop-again t)
     (settle-list-passed-requires t)
     (settle-list-returns-2 t))
-    (λ t. settle-one-lts.spec (
-      operand-place-reads.Asked,
-      operand-place-reads.Learnt,
-      settle-below t,
-      settle.Post,
-    )
+    (λ t. settle-one-lts.spec (settle-one-calls t)
     (settle-one-at t)
     settle-one.Post
     (settle-one-operand-place-requires t)
     (settle-one-settle-requires t)
     (settle-one-returns t))
-    (λ t. settle-try-lts.spec (
-      has-reads.Asked,
-      has-reads.Learnt,
-      settle-one-below t,
-      settle-one.Post,
-      with-reads.Asked,
-      with-reads.Learnt,
-      given-back-reads.Asked,
-      given-back-reads.Learnt,
-      both-reads.Asked,
-      both-reads.Learnt,
-    )
+    (λ t. settle-try-lts.spec (settle-try-calls t)
     (settle-try-at t)
     settle-try.Post
     (settle-try-has-requires t)
@@ -1143,8 +444,7 @@ pub +settle+settle-block+settle-if+settle-list+settle-one+settle-try+settle-whil
     (settle-try-given-back-requires t)
     (settle-try-both-requires t)
     (settle-try-returns t))
-    λ t. settle-while-lts.spec
-    (settle-one-below t, settle-one.Post)
+    λ t. settle-while-lts.spec (settle-while-calls t)
     (settle-while-at t)
     settle-while.Post
     (settle-while-settle-one-requires t)

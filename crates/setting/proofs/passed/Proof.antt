@@ -1,12 +1,9 @@
-use Rattle.rules.specs.Typing.{ok, need, _>>=_}
-use borrow.Author.Tests.{not-true, not-false}
-use mathlib.Core.Path.{_≡_, refl, sym, _∙_, ap}
+-- `setting::passed` meets its contract.
+use Rattle.rules.specs.Typing.{need}
 use Rattle.setting.proofs.passed.Statement.{statement}
+use mathlib.Core.Path.{refl}
 use Rattle.setting.proofs.passed.Tie as tie
-use Rattle.setting.proofs.passed.Reads as reads
-use Rattle.setting.proofs.passed.Lts as lts
 
--- src/lib.rt:99:1
 returns : tie.Need-returns
 unfolding need
 returns c = refl

@@ -1,10 +1,8 @@
-use Rattle.setting.specs.Vars.{marks-all}
+-- `setting::Vars::all` meets its contract.
 use Rattle.setting.proofs.Vars.all.Statement.{statement}
+use Rattle.setting.specs.Vars.{marks-all}
 use Rattle.setting.proofs.Vars.all.Tie as tie
-use Rattle.setting.proofs.Vars.all.Reads as reads
-use Rattle.setting.proofs.Vars.all.Lts as lts
 
--- src/lib.rt:23:5
 returns : tie.Need-returns
 returns c = marks-all
 

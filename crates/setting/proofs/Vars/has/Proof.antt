@@ -1,16 +1,13 @@
-use mathlib.Core.Path.{_≡_, refl}
+-- `setting::Vars::has` meets its contract.
+use Rattle.setting.proofs.Vars.has.Statement.{statement}
 use Rattle.setting.specs.Vars.{marks}
 use borrow.Author.Needs.{needs}
-use Rattle.setting.proofs.Vars.has.Statement.{statement}
+use mathlib.Core.Path.{refl}
 use Rattle.setting.proofs.Vars.has.Tie as tie
-use Rattle.setting.proofs.Vars.has.Reads as reads
-use Rattle.setting.proofs.Vars.has.Lts as lts
 
--- src/lib.rt:46:9
 element-copy-out-result : tie.Need-element-copy-out-result
 element-copy-out-result c = search needs
 
--- src/lib.rt:42:5
 returns : tie.Need-returns
 unfolding marks
 returns c = refl

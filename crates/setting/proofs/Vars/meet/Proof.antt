@@ -1,15 +1,13 @@
-use borrow.Author.Needs.{needs}
-use Rattle.setting.specs.Vars.{varsOf, marks, Marking, marking-start, marking-on, marking-end, meet-out}
-use Rattle.image.specs.Numbers.{variables}
+-- `setting::Vars::meet` meets its contract.
 use Prim.Native.Nat.{_-_}
-use Rattle.rules.specs.Setting.{between, meet}
-use mathlib.Core.Path.{_≡_, refl, sym, _∙_}
-use lib.ListN.{length, length-map}
-use native.Mathlib.Omega.{arith}
+use Rattle.image.specs.Numbers.{variables}
+use Rattle.rules.specs.Setting.{meet}
 use Rattle.setting.proofs.Vars.meet.Statement.{statement}
+use Rattle.setting.specs.Vars.{Marking, marking-end, marking-on, marking-start, marks, meet-out, varsOf}
+use borrow.Author.Needs.{needs}
+use lib.ListN.{length-map}
+use native.Mathlib.Omega.{arith}
 use Rattle.setting.proofs.Vars.meet.Tie as tie
-use Rattle.setting.proofs.Vars.meet.Reads as reads
-use Rattle.setting.proofs.Vars.meet.Lts as lts
 
 abbrev Inv-loop : tie.InvT-loop
 Inv-loop self₀ other i₀ self i = Marking (meet (varsOf self₀) (varsOf other)) (self₀ .on) (self .on) i
@@ -17,36 +15,28 @@ Inv-loop self₀ other i₀ self i = Marking (meet (varsOf self₀) (varsOf othe
 abbrev μ-loop : tie.MeasureT-loop
 μ-loop self₀ other i₀ self i = variables - i
 
--- src/lib.rt:78:9
 loop-holds : tie.Need-loop-holds Inv-loop μ-loop
 loop-holds c = marking-start _ _ (simp length-map at (c .good .0 .1 .1 .0 .1 .0 .1))
 
--- src/lib.rt:79:26
 element-copy-out-self : tie.Need-element-copy-out-self Inv-loop μ-loop
 element-copy-out-self c = search needs
 
--- src/lib.rt:79:39
 element-copy-out-self-2 : tie.Need-element-copy-out-self-2 Inv-loop μ-loop
 element-copy-out-self-2 c = search needs
 
--- src/lib.rt:79:13
 element-write-self : tie.Need-element-write-self Inv-loop μ-loop
 element-write-self c = search needs
 
--- src/lib.rt:80:13
 add-i : tie.Need-add-i Inv-loop μ-loop
 add-i c = search needs
 
--- src/lib.rt:78:9
 loop-less : tie.Need-loop-less Inv-loop μ-loop
 loop-less c = search needs
 
--- src/lib.rt:78:9
 loop-again : tie.Need-loop-again Inv-loop μ-loop
 unfolding meet marks
 loop-again c = marking-on _ (c .before .before .before .loop .inv) (search needs) (rw (c .before .before .before .loop .inv .rest (c .before .before .before .loop .i) (omega arith)))
 
--- src/lib.rt:74:5
 returns : tie.Need-returns Inv-loop μ-loop
 returns c = marking-end (c .before .loop .inv) (search needs) (λ x l. meet-out _ _ x (simp length-map at (c .before .before .good .0 .1 .1 .0 .1 .0 .1)) l)
 
