@@ -2,5 +2,4 @@
 pub mod Vars
 pub mod Settle
 -- Laws, which a reader need not believe: the checker does.
-pub mod Bodies
 pub mod Unset

@@ -23,10 +23,10 @@ use Rattle.rules.specs.Typing.{ok, need}
 use Rattle.rules.specs.Setting.{Vars, between, setting}
 use Rattle.rules.specs.Sites.{after, reads}
 use Rattle.rules.specs.Numbers.{methodReads, allReads, settingRule}
-use Rattle.laws.specs.Maps.{range, length-tabulate, length-range}
-use Rattle.laws.specs.Trees.{body-holds, method-filled, main-filled, body-places, main-places}
+use Rattle.laws.specs.Maps.{stretch, length-tabulate, length-stretch}
+use Rattle.laws.specs.Postorder.{body-holds, method-filled, main-filled, body-places, main-places}
 use Rattle.figures.specs.FirstBreach.{AllHold, reads-length, setting-after, setting-exactly, setting-first}
-use Rattle.setting.specs.Bodies.{Bodies, Told, told, body-told, main-told, none-told}
+use Rattle.figures.specs.Bodies.{Bodies, Told, told, body-told, main-told, none-told}
 
 -- ONE TREE
 -- what a tree's check says of its tests, and of their first failure where its nodes stand from b on
@@ -38,7 +38,7 @@ module _ (e : Expr) (I : Vars) (t : Bool) (p : ℕ) (K : Vars) (h : need t p K �
   unfolding need
   all-set q = set-holds e I K (sym h ∙ rw q)
 
-  first-unset : (b n : ℕ) → places e ≡ range b n → t ≡ false → Told b (reads e I) p
+  first-unset : (b n : ℕ) → places e ≡ stretch (λ j. j) b n → t ≡ false → Told b (reads e I) p
   unfolding need
   first-unset b n r q = told b n (reads e I) (places e) p r (setting-first e I p (sym h ∙ rw q))
 
@@ -86,7 +86,7 @@ module _ (ws : List ℕ) (l : Layout) (g : Good ws l) where
         next = λ j w.
             let e = methodAt ws j .body in
             let s = body-holds ws (bodyStart ws j) (methodWord ws j 5) (method-filled ws j w (filled j (omega arith))) in
-            let r = reads-length e (between 0 (length (methodAt ws j .params))) ∙ ap length (body-places ws hold filled j w) ∙ length-range (bodyStart ws j) (bodyStart ws (suc j)) in
+            let r = reads-length e (between 0 (length (methodAt ws j .params))) ∙ ap length (body-places ws hold filled j w) ∙ length-stretch (λ i. i) (bodyStart ws j) (bodyStart ws (suc j)) in
             omega (arith, r, s .1);
       }
 

@@ -3,7 +3,7 @@ use Prim.Native.Nat.{_-_, _<_, _≤_, ℕ}
 use Rattle.figures.specs.FirstBreach.{AllHold}
 use Rattle.rules.specs.Numbers.{methodReads}
 use Rattle.setting.proofs.unset_place.Statement.{statement}
-use Rattle.setting.specs.Bodies.{held-on}
+use Rattle.figures.specs.Bodies.{held-on}
 use Rattle.setting.specs.Unset.{main-unset, method-set, method-unset, none-unset}
 use borrow.Author.Needs.{needs}
 use borrow.Author.Tests.{not-false, not-true}

@@ -12,8 +12,8 @@ use Rattle.order.specs.Rules.{scan, firstPlace}
 use Rattle.image.specs.Layout.{tested}
 use Rattle.rules.specs.Maps.{tabulate}
 use Rattle.rules.specs.Numbers.{joined}
-use Rattle.laws.specs.Maps.{range, getD-tabulate, length-range}
+use Rattle.laws.specs.Maps.{stretch, getD-tabulate, length-stretch}
 use Rattle.figures.specs.FirstBreach.{AllHold, FirstAt, FirstBreach}
 
 -- ONE LIST
 never : {A : Type 0} (b : Bool) → b ≡ true → b ≡ false → A
@@ -106,10 +106,10 @@ pub record Told (b : ℕ) (bs : List Bool) (p : ℕ) : Type 0 where
   pub first : FirstAt bs index
 
 -- from the place of the first breach in a list of places
-pub told : (b e : ℕ) (bs : List Bool) (ps : List ℕ) (p : ℕ) → ps ≡ range b e → FirstBreach bs ps p → Told b bs p
-unfolding range
+pub told : (b e : ℕ) (bs : List Bool) (ps : List ℕ) (p : ℕ) → ps ≡ stretch (λ i. i) b e → FirstBreach bs ps p → Told b bs p
+unfolding stretch
 told b e bs ps p r f =
-    let l : f .index < e - b = omega (arith, f .within, length-range b e, ap length r) in
+    let l : f .index < e - b = omega (arith, f .within, length-stretch (λ i. i) b e, ap length r) in
     record {
       index = f .index;
       at = sym (f .at) ∙ ap (λ (qs : List ℕ). getD qs (f .index) 0) r ∙ getD-tabulate (e - b) (λ i. b + i) (f .index) 0 l;
