@@ -1,0 +1,3 @@
+-- Type safety. Laws of the parts first, then the theorem over trees.
+pub mod Sets
+pub mod Conform
