@@ -1,3 +1,5 @@
 -- Type safety. Laws of the parts first, then the theorem over trees.
 pub mod Sets
 pub mod Conform
+pub mod Safe
+pub mod Remember
