@@ -3,3 +3,4 @@ pub mod Sets
 pub mod Conform
 pub mod Safe
 pub mod Remember
+pub mod Tables
