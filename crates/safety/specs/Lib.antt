@@ -4,3 +4,4 @@ pub mod Conform
 pub mod Safe
 pub mod Remember
 pub mod Tables
+pub mod Redexes
