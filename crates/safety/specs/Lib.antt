@@ -5,3 +5,5 @@ pub mod Safe
 pub mod Remember
 pub mod Tables
 pub mod Redexes
+pub mod Steps
+pub mod Safety
