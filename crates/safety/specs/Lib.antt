@@ -7,3 +7,4 @@ pub mod Tables
 pub mod Redexes
 pub mod Steps
 pub mod Safety
+pub mod Typed
