@@ -8,3 +8,4 @@ pub mod Redexes
 pub mod Steps
 pub mod Safety
 pub mod Typed
+pub mod Theorem

@@ -24,6 +24,19 @@ use Rattle.safety.specs.Safe.{Adds, Compares, Puts, Safe, Safes, mono, m
 use Rattle.safety.specs.Redexes.{read-ok, add-ok, eq-ok, new-ok, cast-ok, get-ok, put-safe}
 use Rattle.safety.specs.Steps.{Wf, Good, Goods, Kept, keep, redex-good, under-good, unders-good, both-good, if-good, throw-good, assign-good, call-good, try-good, block-good, cons-good, tail-good}
 
+module _ (P : Program) where
+  -- how a run may end, and the heap that it leaves
+  abbrev pub EndOk : Ty → Heap → End → Type 0
+  EndOk t h (Returned v) = Conf P h v t
+  EndOk t h (Threw a) = Conf P h (Addr a) (Class 0)
+  EndOk t h OutOfSteps = Unit {0}
+  EndOk t h TooDeep = Unit {0}
+  EndOk t h (Stuck q) = ⊥
+
+  pub record RunOk (t : Ty) (e : Ended) : Type 0 where
+    pub ends : EndOk t (e .heap) (e .end)
+    pub heapOk : HeapOk P (e .heap)
+
 module _ (P : Program) (W : Wf P) where
   -- ONE STEP: progress and preservation in one theorem.
   mutual
@@ -176,35 +189,24 @@ module _ (P : Program) (W : Wf P) where
         tail-good P W hk sk (s .type) (s .types) ts J (s .split) q v (steps P es h l) k
         (goods es (s .types) J hk sk (monos P (W .low) es (s .types) ⊑-refl i ≼-refl ⊆-refl (s .rest))))
 
-  -- A RUN: how it may end, and the heap that it leaves.
-  abbrev pub EndOk : Ty → Heap → End → Type 0
-  EndOk t h (Returned v) = Conf P h v t
-  EndOk t h (Threw a) = Conf P h (Addr a) (Class 0)
-  EndOk t h OutOfSteps = Unit {0}
-  EndOk t h TooDeep = Unit {0}
-  EndOk t h (Stuck q) = ⊥
-
-  pub record RunOk (t : Ty) (e : Ended) : Type 0 where
-    pub ends : EndOk t (e .heap) (e .end)
-    pub heapOk : HeapOk P (e .heap)
-
+  -- A RUN
   judge-ok : (depth k : ℕ) (t : Ty) (J : Vars) {Γ : Env} {h : Heap} (l : Store) (o : Out) (on : Heap → Store → Expr → Ended) → HeapOk P h
       → Good P Γ t J h l o
-      → ((h' : Heap) (l' : Store) (e : Expr) → HeapOk P h' → StoreOk P h' l' Γ → Safe P e Γ (dom l') h' t J → RunOk t (on h' l' e))
-      → RunOk t (judge depth k h o on)
+      → ((h' : Heap) (l' : Store) (e : Expr) → HeapOk P h' → StoreOk P h' l' Γ → Safe P e Γ (dom l') h' t J → RunOk P t (on h' l' e))
+      → RunOk P t (judge depth k h o on)
   unfolding judge
   judge-ok depth k t J l (value q v) on hk g r = record { ends = g .fits; heapOk = hk }
   judge-ok depth k t J l (Out.thrown a) on hk g r = record { ends = g; heapOk = hk }
   judge-ok depth k t J {h = h} l (Out.next d q h' l' e) on hk g r = go (leb d depth)
     where
-      go : (b : Bool) → RunOk t (cond b (on h' l' e) (record { end = TooDeep; count = k; heap = h }))
+      go : (b : Bool) → RunOk P t (cond b (on h' l' e) (record { end = TooDeep; count = k; heap = h }))
       go false = record { ends = tt; heapOk = hk }
       go true = r h' l' e (g .heapOk) (g .storeOk) (g .safe)
   judge-ok depth k t J l (Out.stuck d q) on hk g r = absurd g
 
   pub run-ok : (n depth k : ℕ) (t : Ty) (J : Vars) (e : Expr) {Γ : Env} {h : Heap} {l : Store} → HeapOk P h → StoreOk P h l Γ
       → Safe P e Γ (dom l) h t J
-      → RunOk t (run depth P n k h l e)
+      → RunOk P t (run depth P n k h l e)
   unfolding run
   run-ok zero depth k t J e {h = h} {l = l} hk sk s =
       judge-ok depth k t J l (step P e h l) _ hk (good e t J hk sk s) (λ h' l' e' hk' sk' s'. record { ends = tt; heapOk = hk })
