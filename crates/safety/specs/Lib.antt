@@ -9,3 +9,4 @@ pub mod Steps
 pub mod Safety
 pub mod Typed
 pub mod Theorem
+pub mod Image
