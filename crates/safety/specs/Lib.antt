@@ -10,3 +10,4 @@ pub mod Safety
 pub mod Typed
 pub mod Theorem
 pub mod Image
+pub mod Heaps
