@@ -116,3 +116,149 @@ module _ (ws : List ℕ) (low : Lower (program ws)) where
               rw (look-obj P hs (good-words .whole) a (suc a) (eqb-true _ _ k));
           most = rw (length-heap P hs) (slots .1);
         }
+
+    -- the inputs, as variables from 1 on
+    all-conf : (h : Heap) (vs : List Value) (ts : List Ty) → length vs ≡ length ts
+        → ((i : ℕ) → i < length vs → Conf P h (getD vs i Value.Unit) (getD ts i Void)) → AllConf P h vs ts
+    all-conf h [] [] e k = tt
+    all-conf h [] (t ∷ ts) e k = omega arith
+    all-conf h (v ∷ vs) [] e k = omega arith
+    all-conf h (v ∷ vs) (t ∷ ts) e k = (k 0 (omega arith), all-conf h vs ts (omega arith) (λ i l. k (suc i) (omega arith)))
+
+    store-from : (h : Heap) (vs : List Value) (ts : List Ty) (x : ℕ) → AllConf P h vs ts → StoreOk P h (from x vs) (from x ts)
+    unfolding from
+    store-from h [] [] x c = record { at = λ y. tt }
+    store-from h [] (t ∷ ts) x c = absurd c
+    store-from h (v ∷ vs) [] x c = absurd c
+    store-from h (v ∷ vs) (t ∷ ts) x c = store-upd P low x (some v) (some t) (store-from h vs ts (suc x) (c .1)) (c .0)
+
+    input-count : length is ≡ inputCount ws
+    unfolding inputRule inputHolds
+    input-count =
+        let n = inputCount ws in
+        let h = S .inputs n (below-max (length is) n) in
+        let t : cond true (eqb (length is) n) true ≡ true = and-left _ (cond (ltb n (length is)) (isIs (valueOf (getD is n 0))) true) (rw (eq-eqb n n refl) at h) in
+        eqb-true _ _ t
+      where
+        below-max : (a b : ℕ) → b < suc (max a b)
+        below-max a b = omega arith
+
+    length-values : length (valuesOf is) ≡ length is
+    unfolding valuesOf
+    length-values = length-map is _
+
+    type-count : length (inputTypes ws) ≡ inputCount ws
+    unfolding inputTypes typesFrom
+    type-count = length-tabulate (inputCount ws) _
+
+    pub inputs-ok : StoreOk P (heapOf P hs) (from 1 (valuesOf is)) (mainEnv ws)
+    unfolding mainEnv inputTypeRule valuesOf
+    inputs-ok =
+        store-from (heapOf P hs) (valuesOf is) (inputTypes ws) 1
+        (all-conf (heapOf P hs) (valuesOf is) (inputTypes ws) (length-values ∙ input-count ∙ sym type-count)
+        (λ i l.
+        let m : i < length is = rw length-values at l in
+        rw (getD-map (λ w. written (valueOf w)) is i Value.Unit 0 m)
+        (record { proper = written-proper (getD is i 0); below = test-below P low (heapOf P hs) _ _ (S .types i m) })))
+
+    pub inputs-set : between 1 (inputCount ws) ⊆ dom (from 1 (valuesOf is))
+    unfolding between
+    inputs-set = record { at = λ x e. go x (leb-true 1 x (and-left (leb 1 x) (leb x (inputCount ws)) e)) (leb-true x (inputCount ws) (and-right (leb 1 x) (leb x (inputCount ws)) e)) }
+      where
+        go : (x : ℕ) → 1 ≤ x → x ≤ inputCount ws → isSome (from 1 (valuesOf is) x) ≡ true
+        go x l m =
+            let q : x ≡ 1 + (x - 1) = omega arith in
+            let n : x - 1 < length (valuesOf is) = omega (arith, length-values, input-count) in
+            rw (q, from-at 1 (valuesOf is) (x - 1) Value.Unit n)
+
+  -- AND BACK
+  module _ (few : Held (fieldsRule ws)) (h : Heap) (hk : HeapOk P h) where
+    few-fields : (c : ℕ) → c < classCount ws → length (hasFields P c) ≤ mostFieldsAbove
+    unfolding fieldsRule
+    few-fields c l = leb-true _ _ (few c l)
+
+    object-shaped : (a c : ℕ) (vs : List Value) → look h a ≡ obj c vs → Object P (classCount ws) c vs
+    object-shaped a c vs e =
+        let o = hk .object a c vs e in
+        let k : c < classCount ws = rw classes at (o .known) in
+        record {
+          class = k;
+          count = o .count;
+          few = omega (arith, o .count, few-fields c k);
+          proper = λ i. go (o .field) i (ltb i (length vs)) refl;
+        }
+      where
+        go : ((i : ℕ) → i < length vs → Conf P h (getD vs i Value.Unit) (fieldType (hasFields P c) i)) → (i : ℕ) (t : Bool)
+            → ltb i (length vs) ≡ t → Proper (getD vs i Value.Unit)
+        go f i true q = f i (ltb-true _ _ q) .proper
+        go f i false q = rw (List·getD-eq-default vs Value.Unit (ltb-false i (length vs) q)) tt
+
+    shaped : Shaped P (classCount ws) h
+    shaped = record { at = λ a. go a (look h a) refl }
+      where
+        go : (a : ℕ) (s : Slot) → look h a ≡ s → SlotShaped P (classCount ws) s
+        go a free e = tt
+        go a (obj c vs) e = object-shaped a c vs e
+
+    word-count : length (wordsOf h) ≡ slotWords * length h
+    word-count = length-words h (shaped-fits P (classCount ws) h shaped)
+
+    pub heap-back : heapOf P (wordsOf h) ≡ h
+    heap-back = heap-words P (classCount ws) h shaped
+
+    pub length-back : Held (heapLengthRule (wordsOf h))
+    unfolding heapLengthRule tested heapLengthHolds
+    length-back zero l =
+        let three : 2 < length h = in-range h 2 3 (hk .system 2 (omega arith)) in
+        let p : slotWords * length h % slotWords ≡ 0 = omega arith in
+        let q : slotWords * length h / slotWords ≡ length h = omega arith in
+        rw (word-count, p, q, le-leb fewestSlots (length h) (omega arith), le-leb (length h) mostSlots (hk .most))
+    length-back (suc i) l = absurd (omega arith)
+
+    pub words-back : Held (heapWordRule ws (wordsOf h))
+    unfolding heapWordRule
+    words-back = shaped-words P (classCount ws) h shaped few-fields .holds
+
+    -- the class word and the field words of slot a
+    class-back : (a word : ℕ) → slotWordConforms P (wordsOf h) a (getD (wordsOf h) (slotWords * a) 0) 0 word ≡ true
+    unfolding slotWordConforms
+    class-back a word = go (ltb a fewestSlots) refl
+      where
+        go : (t : Bool) → ltb a fewestSlots ≡ t → cond t (eqb (getD (wordsOf h) (slotWords * a) 0) (suc (suc a))) true ≡ true
+        go true e =
+            let k = class-slot (look h a) (suc a) (hk .system a (ltb-true _ _ e)) in
+            rw (word-class P (classCount ws) h shaped a (suc a) (k .0) (k .1)) (eq-eqb (suc (suc a)) (suc (suc a)) refl)
+        go false e = refl
+
+    field-back : (a j : ℕ) (s : Slot) → look h a ≡ s
+        → slotWordConforms P (wordsOf h) a (getD (wordsOf h) (slotWords * a) 0) (suc j) (getD (wordsOf h) (slotWords * a + suc j) 0) ≡ true
+    unfolding slotWordConforms
+    field-back a j free e = rw (word-free P (classCount ws) h shaped a e)
+    field-back a j (obj c vs) e = rw (word-class P (classCount ws) h shaped a c vs e) (go (ltb j (length (hasFields P c))) refl)
+      where
+        word : ℕ
+        word = getD (wordsOf h) (slotWords * a + suc j) 0
+
+        go : (t : Bool) → ltb j (length (hasFields P c)) ≡ t
+            → cond t (conforms P (heapOf P (wordsOf h)) (written (valueOf word)) (fieldType (hasFields P c) j)) true ≡ true
+        go true q =
+            let o = hk .object a c vs e in
+            let l : j < length vs = rw (o .count) (ltb-true _ _ q) in
+            let k = o .field j l in
+            let z : slotWords * a + suc j ≡ slotWords * a + 1 + j = omega arith in
+            rw (heap-back, z, word-field P (classCount ws) h shaped a c vs e j Value.Unit l, written-same (getD vs j Value.Unit) (k .proper))
+            (below-test P low h (getD vs j Value.Unit) (fieldType (hasFields P c) j) (k .below))
+        go false q = refl
+
+    slot-back : (a k : ℕ)
+        → slotWordConforms P (wordsOf h) a (getD (wordsOf h) (slotWords * a) 0) k (getD (wordsOf h) (slotWords * a + k) 0) ≡ true
+    slot-back a zero = class-back a _
+    slot-back a (suc j) = field-back a j (look h a) refl
+
+    pub objects-back : Held (heapRule ws (wordsOf h))
+    unfolding heapRule
+    objects-back i l =
+        let e : i ≡ slotWords * (i / slotWords) + i % slotWords = omega arith in
+        let q : getD (wordsOf h) i 0 ≡ getD (wordsOf h) (slotWords * (i / slotWords) + i % slotWords) 0 =
+        ap (λ (j : ℕ). getD (wordsOf h) j 0) e in
+        rw q (slot-back (i / slotWords) (i % slotWords))
