@@ -11,3 +11,4 @@ pub mod Typed
 pub mod Theorem
 pub mod Image
 pub mod Heaps
+pub mod Demand3
