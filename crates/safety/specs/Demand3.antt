@@ -41,7 +41,7 @@ pub record Safe (ws : List ℕ) (t : Ty) (e : Ended) : Type 0 where
 
 -- An image that the check accepts, with a heap and inputs that conform: main has a type, and every run is safe at that type,
 -- whatever its step limit and its depth limit.
-pub Demand3 : Type 0
+abbrev pub Demand3 : Type 0
 Demand3 =
     (ws hs is : List ℕ)
     → answerOf (checkRules ws) ≡ accepted
@@ -66,7 +66,7 @@ run-safe ws hs is checked started =
     )
 
 pub demand-3 : Demand3
-unfolding Demand3 heapAfter
+unfolding heapAfter
 demand-3 ws hs is checked started =
     let R = rules-held ws checked in
     let A = accepted-program ws R in

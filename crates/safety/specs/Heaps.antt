@@ -219,6 +219,9 @@ module _ (ws : List ℕ) (low : Lower (program ws)) where
     unfolding heapWordRule
     words-back = shaped-words P (classCount ws) h shaped few-fields .holds
 
+    pub class-word : (a c : ℕ) (vs : List Value) → look h a ≡ obj c vs → (getD (wordsOf h) (slotWords * a) 0 ≡ suc c) × (c < classCount ws)
+    class-word a c vs e = (word-class P (classCount ws) h shaped a c vs e, object-shaped a c vs e .class)
+
     -- the class word and the field words of slot a
     class-back : (a word : ℕ) → slotWordConforms P (wordsOf h) a (getD (wordsOf h) (slotWords * a) 0) 0 word ≡ true
     unfolding slotWordConforms

@@ -12,3 +12,5 @@ pub mod Theorem
 pub mod Image
 pub mod Heaps
 pub mod Demand3
+pub mod Demo
+pub mod Answers
