@@ -1,11 +1,10 @@
 -- Demand 3 for answers: whatever programs gave them, answers that meet the promises of check, conform and run tell no more than this.
-use Prim.Native.Nat.{ℕ, zero, suc, _*_, _<_}
-use mathlib.Core.Path.{_≡_, refl, sym, ap, _∙_}
+use Prim.Native.Nat.{ℕ, suc, _*_, _<_}
+use mathlib.Core.Path.{_≡_, refl, sym, _∙_}
 use mathlib.Core.Bool.{true}
 use mathlib.Core.Option.{Option, none, some}
 use mathlib.Core.List.{List, [], _∷_}
-use native.Mathlib.Omega.{arith}
-use lib.ListN.{length, getD}
+use lib.ListN.{getD}
 use Rattle.order.specs.declared.Answer.{Answer}
 use Rattle.order.specs.Rules.{answerOf, accepted}
 use Rattle.words.specs.declared.Value.{Value}
@@ -25,8 +24,7 @@ use Rattle.rules.specs.Run.{runOf, heapAfter}
 use Rattle.rules.specs.Numbers.{heapLengthRule, heapWordRule, heapRule, checkRules, conformRules, endNumbers, endValue}
 use Rattle.laws.specs.Classes.{Lower}
 use Rattle.safety.specs.Conform.{HeapOk, conf-object, below-test}
-use Rattle.safety.specs.Theorem.{Accepted}
-use Rattle.safety.specs.Safety.{EndOk, RunOk}
+use Rattle.safety.specs.Safety.{EndOk}
 use Rattle.safety.specs.Image.{nowhere, Rules, rules-held, accepted-program}
 use Rattle.safety.specs.Heaps.{heap-back, class-word, length-back, words-back, objects-back}
 use Rattle.safety.specs.Demand3.{run-safe}
@@ -73,9 +71,11 @@ module _ (ws : List ℕ) (low : Lower (program ws)) (R : Rules ws) (t : Ty) (h :
   heap-answer : answerOf (heapLengthRule (wordsOf h) ∷ heapWordRule ws (wordsOf h) ∷ heapRule ws (wordsOf h) ∷ []) ≡ accepted
   unfolding answerOf
   heap-answer =
-      rw (nowhere (heapLengthRule (wordsOf h)) (length-back ws low (R .fields) h hk),
-      nowhere (heapWordRule ws (wordsOf h)) (words-back ws low (R .fields) h hk),
-      nowhere (heapRule ws (wordsOf h)) (objects-back ws low (R .fields) h hk))
+      rw (
+        nowhere (heapLengthRule (wordsOf h)) (length-back ws low (R .fields) h hk),
+        nowhere (heapWordRule ws (wordsOf h)) (words-back ws low (R .fields) h hk),
+        nowhere (heapRule ws (wordsOf h)) (objects-back ws low (R .fields) h hk),
+      )
 
 pub answers-safe : (ws hs is : List ℕ) (check conform : Answer) → check ≡ answerOf (checkRules ws) → conform ≡ answerOf (conformRules ws hs is)
     → check ≡ accepted → conform ≡ accepted
@@ -85,8 +85,7 @@ unfolding heapAfter
 answers-safe ws hs is check conform a b p q =
     let R = rules-held ws (sym a ∙ p) in
     let A = accepted-program ws R in
-    let s = run-safe ws hs is (sym a ∙ p) (sym b ∙ q) in
-    (
+    let s = run-safe ws hs is (sym a ∙ p) (sym b ∙ q) in (
       s .0,
       s .1,
       λ steps depth end word heap m.

@@ -2,15 +2,15 @@
 use Prim.Native.Nat.{ℕ, zero, suc, _+_, _≤_, _<_}
 use mathlib.Core.Path.{_≡_, refl, sym, subst, ap, _∙_}
 use mathlib.Core.Logic.{_≢_}
-use mathlib.Core.Bool.{Bool, true, false}
+use mathlib.Core.Bool.{Bool, true}
 use mathlib.Core.Option.{Option, none, some}
-use mathlib.Core.List.{List, [], _∷_, map}
+use mathlib.Core.List.{List, [], _∷_}
 use native.Mathlib.Omega.{arith}
 use native.Mathlib.Decide.{ℕ-discrete}
-use lib.Dec.{eqb, leb}
-use lib.ListN.{length, getD, set, length-set, length-map}
+use lib.Dec.{eqb}
+use lib.ListN.{length, getD, set, length-set}
 use lib.Seq.{getD-set-same, getD-set-other}
-use borrow.Author.Tests.{eqb-true, eq-eqb, le-leb, leb-true}
+use borrow.Author.Tests.{eqb-true, le-leb}
 use Rattle.words.specs.declared.Value.{Value}
 use Rattle.words.specs.declared.Value.the-variants.{Null, Intg, Addr}
 use Rattle.words.specs.declared.Ty.{Ty}
@@ -20,15 +20,16 @@ use Rattle.words.specs.TypeLaws.{type-of-word}
 use Rattle.words.specs.Value.{Proper}
 use Rattle.rules.specs.Maps.{upd}
 use Rattle.rules.specs.Program.{Field, Program, Env}
-use Rattle.rules.specs.Classes.{subclass, subtype, sameType, hasFields}
+use Rattle.rules.specs.Classes.{subclass, subtype, hasFields}
 use Rattle.rules.specs.Heap.{Slot, free, obj, Heap, look, default, defaults}
 use Rattle.rules.specs.Conform.{slotConforms, conforms}
 use Rattle.rules.specs.Numbers.{mostSlots, fewestSlots, fieldType}
 use Rattle.rules.specs.Step.{Store}
-use Rattle.laws.specs.Maps.{upd-rel, upd-keep, restore-rel, getD-map}
+use Rattle.laws.specs.Maps.{upd-rel, upd-keep, restore-rel}
 use Rattle.laws.specs.Classes.{Lower, subclass-refl, subclass-trans, subclass-top}
 use Rattle.laws.specs.Heap.{length-defaults, defaults-proper}
 use Rattle.figures.specs.Agreement.{never}
+use Rattle.safety.specs.Sets.{no-one}
 
 abbrev pub classIn : Slot → Option ℕ
 classIn free = none
@@ -58,12 +59,12 @@ same-type t u e = sym (type-of-word t) ∙ ap typeOf (eqb-true _ _ e) ∙ type-o
 
 -- where an object stands
 pub in-range : (h : Heap) (a c : ℕ) → classIn (look h a) ≡ some c → a < length h
-in-range [] a c e = absurd (let z : _≡_ {A = ℕ} 0 1 = cc in omega arith)
+in-range [] a c e = no-one e
 in-range (s ∷ h) zero c e = omega arith
 in-range (s ∷ h) (suc a) c e = omega (arith, in-range h a c e)
 
 pub class-slot : (s : Slot) (c : ℕ) → classIn s ≡ some c → (vs : List Value) × (s ≡ obj c vs)
-class-slot free c e = absurd (let z : _≡_ {A = ℕ} 0 1 = cc in omega arith)
+class-slot free c e = no-one e
 class-slot (obj d vs) c e = (vs, let z : d ≡ c = cc in rw z)
 
 module _ (P : Program) where

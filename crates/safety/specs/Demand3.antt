@@ -10,18 +10,17 @@ use Rattle.words.specs.declared.Ty.{Ty}
 use Rattle.rules.specs.declared.End.{End}
 use Rattle.rules.specs.declared.End.the-variants.{Returned, Threw, OutOfSteps, TooDeep, Stuck}
 use Rattle.image.specs.Trailer.{inputCount}
-use Rattle.rules.specs.Maps.{from}
 use Rattle.rules.specs.Program.{program, main, mainEnv}
 use Rattle.rules.specs.Typing.{ok, typing}
 use Rattle.rules.specs.Setting.{between}
-use Rattle.rules.specs.Heap.{obj, Heap, look, heapOf, valuesOf}
+use Rattle.rules.specs.Heap.{obj, Heap, look}
 use Rattle.rules.specs.Conform.{conforms}
 use Rattle.rules.specs.Run.{Ended, runOf, heapAfter}
 use Rattle.rules.specs.Numbers.{heapLengthRule, heapWordRule, heapRule, checkRules, conformRules}
-use Rattle.safety.specs.Conform.{Conf, conf-object, below-test}
-use Rattle.safety.specs.Theorem.{Checked, Accepted, safety}
+use Rattle.safety.specs.Conform.{conf-object, below-test}
+use Rattle.safety.specs.Theorem.{safety}
 use Rattle.safety.specs.Safety.{EndOk, RunOk}
-use Rattle.safety.specs.Image.{nowhere, Rules, rules-held, main-ok, accepted-program}
+use Rattle.safety.specs.Image.{nowhere, rules-held, main-ok, accepted-program}
 use Rattle.safety.specs.Heaps.{start-held, heap-ok, inputs-ok, inputs-set, length-back, words-back, objects-back}
 
 -- A value conforms to main's type t in the heap that is left; a thrown address has an object there; no run is stuck.
@@ -57,12 +56,11 @@ run-safe ws hs is checked started =
     let R = rules-held ws checked in
     let S = start-held ws hs is started in
     let A = accepted-program ws R in
-    let m = main-ok ws R in
-    (
+    let m = main-ok ws R in (
       m .0,
       m .1 .typed,
       safety (program ws) A (main ws) (mainEnv ws) (between 1 (inputCount ws)) (m .0) (m .1) (heap-ok ws (A .low) hs is S)
-      (inputs-ok ws (A .low) hs is S) (inputs-set ws (A .low) hs is S),
+          (inputs-ok ws (A .low) hs is S) (inputs-set ws (A .low) hs is S),
     )
 
 pub demand-3 : Demand3
@@ -70,8 +68,7 @@ unfolding heapAfter
 demand-3 ws hs is checked started =
     let R = rules-held ws checked in
     let A = accepted-program ws R in
-    let s = run-safe ws hs is checked started in
-    (
+    let s = run-safe ws hs is checked started in (
       s .0,
       s .1,
       λ steps depth.

@@ -2,8 +2,8 @@
 use Prim.Native.Nat.{ℕ, zero, suc, _+_, _*_, _-_, _/_, _%_, _≤_, _<_, max}
 use mathlib.Core.Path.{_≡_, refl, sym, ap, _∙_}
 use mathlib.Core.Bool.{Bool, true, false, cond, _&&_}
-use mathlib.Core.Option.{Option, none, some}
-use mathlib.Core.List.{List, [], _∷_, map}
+use mathlib.Core.Option.{some}
+use mathlib.Core.List.{List, [], _∷_}
 use native.Mathlib.Omega.{arith}
 use lib.Dec.{eqb, ltb, leb}
 use lib.ListN.{length, getD, length-map, List·getD-eq-default}
@@ -12,25 +12,23 @@ use Rattle.order.specs.Rules.{answerOf, accepted}
 use Rattle.words.specs.declared.Value.{Value}
 use Rattle.words.specs.declared.Ty.{Ty}
 use Rattle.words.specs.declared.Ty.the-variants.{Void}
-use Rattle.words.specs.Value.{Proper, valueOf, wordOf, isIs}
+use Rattle.words.specs.Value.{Proper, valueOf, isIs}
 use Rattle.image.specs.Laws.{and-left, and-right}
 use Rattle.image.specs.Trailer.{classCount, inputCount}
 use Rattle.image.specs.Layout.{tested, formatRule, trailerRule, ceilingRule, classRule, fieldRule, methodRule, typeRule, nodeRule, bodyRule, recordRules, layoutRules}
-use Rattle.rules.specs.Maps.{tabulate, from}
+use Rattle.rules.specs.Maps.{from}
 use Rattle.rules.specs.Trees.{written}
-use Rattle.rules.specs.Program.{Program, Env, program, typesFrom, inputTypes, mainEnv}
+use Rattle.rules.specs.Program.{Program, program, typesFrom, inputTypes, mainEnv}
 use Rattle.rules.specs.Classes.{hasFields}
 use Rattle.rules.specs.Setting.{between}
 use Rattle.rules.specs.Heap.{Slot, free, obj, Heap, look, slotWords, heapOf, wordsOf, valuesOf}
 use Rattle.rules.specs.Conform.{conforms}
-use Rattle.rules.specs.Step.{Store}
-use Rattle.rules.specs.Numbers.{mostFieldsAbove, fewestSlots, mostSlots, fieldsRule, heapLengthHolds, heapLengthRule, slotWordHolds, slotFirst, heapWordRule, inputHolds, inputRule, fieldType, slotWordConforms, heapRule, inputTypeRule, conformRules}
+use Rattle.rules.specs.Numbers.{mostFieldsAbove, fewestSlots, mostSlots, fieldsRule, heapLengthHolds, heapLengthRule, heapWordRule, inputHolds, inputRule, fieldType, slotWordConforms, heapRule, inputTypeRule, conformRules}
 use Rattle.laws.specs.Maps.{length-tabulate, from-at, getD-map}
 use Rattle.laws.specs.Classes.{Lower}
 use Rattle.laws.specs.Heap.{Words, words, look-obj, obj-word, obj-field, length-heap, length-words, Object, SlotShaped, Shaped, shaped-fits, object-at, heap-shaped, heap-words, word-free, word-class, word-field, shaped-words, written-proper, written-same}
-use Rattle.figures.specs.Agreement.{never}
 use Rattle.safety.specs.Sets.{_⊆_, isSome, dom}
-use Rattle.safety.specs.Conform.{classIn, class-slot, in-range, Conf, StoreOk, HeapOk, ObjectOk, AllConf, store-upd, below-test, test-below}
+use Rattle.safety.specs.Conform.{classIn, class-slot, in-range, Conf, StoreOk, HeapOk, AllConf, store-upd, below-test, test-below}
 use Rattle.safety.specs.Image.{Held, all-held}
 
 -- the rules of an accepted start

@@ -1,13 +1,13 @@
 -- From the words of an accepted image to a checked program: the answer 0 means that each rule holds at each of its places.
-use Prim.Native.Nat.{ℕ, zero, suc, _+_, _*_, _-_, _/_, _%_, _^_, _≤_, _<_}
-use mathlib.Core.Path.{_≡_, refl, sym, ap, _∙_}
+use Prim.Native.Nat.{ℕ, zero, suc, _-_, _^_, _<_}
+use mathlib.Core.Path.{_≡_, refl}
 use mathlib.Core.Logic.{inl, inr}
 use mathlib.Core.Bool.{Bool, true, false, cond, _&&_}
-use mathlib.Core.Option.{Option, none, some}
+use mathlib.Core.Option.{none, some}
 use mathlib.Core.List.{List, [], _∷_, _++_, map, map-append}
 use native.Mathlib.Omega.{arith}
-use lib.Dec.{eqb, ltb, leb}
-use lib.ListN.{length, getD, length-map, List·getD-eq-default}
+use lib.Dec.{eqb, ltb}
+use lib.ListN.{length, getD, List·getD-eq-default}
 use borrow.Author.Tests.{ltb-true, ltb-false}
 use Rattle.order.specs.declared.Found.{Found}
 use Rattle.order.specs.declared.Found.the-variants.{At, Nowhere}
@@ -21,23 +21,24 @@ use Rattle.image.specs.declared.Kind.{Kind}
 use Rattle.image.specs.declared.Kind.the-variants.{New, Cast, Value as Literal, Var, Add, Eq, Assign, Get, Set, Call, Block, Seq, If, While, Throw, Try, Unknown}
 use Rattle.image.specs.Laws.{and-left}
 use Rattle.image.specs.Trailer.{classCount, methodCount, nodeCount, mainNode, inputCount}
-use Rattle.image.specs.Records.{classHolds, methodWord}
-use Rattle.image.specs.Nodes.{nodeWord, kindOf, isClass, isUnused, namesHold, operands, reach, sizeIs, nodeHolds, bodyStart, filledHolds}
+use Rattle.image.specs.Records.{methodWord}
+use Rattle.image.specs.Nodes.{nodeWord, kindOf, isClass, isUnused, namesHold, operands, reach, sizeIs, nodeHolds, bodyStart}
 use Rattle.image.specs.Layout.{tested, formatRule, trailerRule, ceilingRule, classRule, fieldRule, methodRule, typeRule, nodeRule, bodyRule, recordRules, layoutRules}
 use Rattle.rules.specs.Maps.{tabulate}
 use Rattle.rules.specs.Trees.{Expr, written, operand, nothing, arguments, nodeOf, nodeTree, forest, tree, place}
-use Rattle.rules.specs.Program.{Method, Program, Env, methodAt, program, main, methodEnv, mainEnv}
-use Rattle.rules.specs.Classes.{methodIn, overrideHolds}
-use Rattle.rules.specs.Typing.{ok, typing}
-use Rattle.rules.specs.Setting.{between, setting}
-use Rattle.rules.specs.Sites.{Site, sites, siteTyped, after, reads}
+use Rattle.rules.specs.Program.{Method, Program, methodAt, program, main, methodEnv, mainEnv}
+use Rattle.rules.specs.Classes.{methodIn}
+use Rattle.rules.specs.Typing.{typing}
+use Rattle.rules.specs.Setting.{between}
+use Rattle.rules.specs.Sites.{sites, siteTyped, after, reads}
 use Rattle.rules.specs.Numbers.{joined, fieldsRule, overrideRule, methodSites, allSites, typingRule, methodReads, allReads, settingRule, checkRules}
 use Rattle.laws.specs.Maps.{length-tabulate, map-tabulate}
 use Rattle.laws.specs.Postorder.{NodesHold, BodiesHold, body-holds, method-filled, main-filled}
-use Rattle.laws.specs.Classes.{Lower, lower}
-use Rattle.figures.specs.Agreement.{never, bind-inv, need-inv}
-use Rattle.figures.specs.FirstBreach.{Written, AllHold, bounded, body-exactly, typing-exactly, setting-exactly}
+use Rattle.laws.specs.Classes.{lower}
+use Rattle.figures.specs.Agreement.{bind-inv, need-inv}
+use Rattle.figures.specs.FirstBreach.{AllHold, bounded, body-exactly, typing-exactly, setting-exactly}
 use Rattle.figures.specs.Laid.{written-tree}
+use Rattle.safety.specs.Sets.{no-one}
 use Rattle.safety.specs.Typed.{Known, KnownAll}
 use Rattle.safety.specs.Theorem.{Checked, BodyOk, Accepted}
 
@@ -189,7 +190,7 @@ module _ (ws : List ℕ) where
   -- a method that the table has is one of the image's
   method-of : (c m : ℕ) (r : Method) (P : Program) (n : ℕ) (f : ℕ → Method) → methodIn P (tabulate n f) c m ≡ some r → (i : ℕ) × (i < n) × (f i ≡ r)
   unfolding methodIn tabulate
-  method-of c m r P zero f e = absurd (let z : _≡_ {A = ℕ} 0 1 = cc in omega arith)
+  method-of c m r P zero f e = no-one e
   method-of c m r P (suc n) f e =
       go (eqb (f 0 .owner) c && eqb (f 0 .name) m) e (λ q. method-of c m r P n (λ i. f (suc i)) q)
     where
@@ -245,8 +246,7 @@ module _ (ws : List ℕ) where
     unfolding main
     main-ok =
         let n = mainNode ws in
-        let t = typing-exactly (program ws) (main ws) (written-tree ws n) (mainEnv ws) .1 (typed-tests .1) in
-        (
+        let t = typing-exactly (program ws) (main ws) (written-tree ws n) (mainEnv ws) .1 (typed-tests .1) in (
           t .0,
           record {
             known = known-tree nodes-hold n (omega (arith, main-filled ws (bodies-hold (methodCount ws) (omega arith)) .1));

@@ -1,28 +1,27 @@
 -- One lemma for each redex: with operands that conform, it gives a value that conforms, in a heap that does, or throws an object.
-use Prim.Native.Nat.{ℕ, zero, suc, _+_, _≤_, _<_}
-use mathlib.Core.Path.{_≡_, refl, sym, ap, _∙_}
+use Prim.Native.Nat.{ℕ, _+_, _<_}
+use mathlib.Core.Path.{_≡_, refl, ap}
 use mathlib.Core.Bool.{Bool, true, false, cond}
 use mathlib.Core.Option.{Option, none, some}
-use mathlib.Core.List.{List, [], _∷_}
+use mathlib.Core.List.{List}
 use native.Mathlib.Omega.{arith}
-use lib.ListN.{length, getD, set}
+use lib.ListN.{length, set}
 use borrow.Author.Tests.{eqb-true, le-leb}
 use Rattle.words.specs.declared.Value.{Value}
 use Rattle.words.specs.declared.Value.the-variants.{Null, Intg, Addr}
 use Rattle.words.specs.declared.Ty.{Ty}
-use Rattle.words.specs.declared.Ty.the-variants.{Void, Boolean, Integer, NT, Class}
+use Rattle.words.specs.declared.Ty.the-variants.{Boolean, Integer, Class}
 use Rattle.words.specs.Types.{typeWord}
 use Rattle.words.specs.IntegerLaws.{plus-range}
 use Rattle.rules.specs.Program.{Program}
 use Rattle.rules.specs.Classes.{subclass, subtype, hasFields}
-use Rattle.rules.specs.Heap.{Slot, free, obj, Heap, look, defaults, lowestFree}
-use Rattle.rules.specs.Numbers.{fieldType}
+use Rattle.rules.specs.Heap.{obj, Heap, look, defaults, lowestFree}
 use Rattle.rules.specs.Step.{nullPointer, classCast, outOfMemory, Redex, gives, raises, fails, readRedex, addRedex, eqRedex, newRedex, castSlot, castRedex, getField, getSlot, getRedex, putField, putSlot, putRedex}
 use Rattle.laws.specs.Classes.{Lower, subclass-refl}
 use Rattle.laws.specs.Heap.{Room, room}
 use Rattle.figures.specs.Agreement.{never}
 use Rattle.safety.specs.Sets.{isSome}
-use Rattle.safety.specs.Conform.{classIn, _≼_, ≼-refl, in-range, Le, Conf, Holds, HeapOk, ObjectOk, le-refl, class-le, conf-mono, conf-le, object-mono, addr-conf, conf-object, system-conf, write-keeps, write-class, write-ok, defaults-ok, put-ok}
+use Rattle.safety.specs.Conform.{classIn, _≼_, ≼-refl, in-range, Le, Conf, Holds, HeapOk, class-le, conf-mono, conf-le, object-mono, addr-conf, conf-object, system-conf, write-keeps, write-class, write-ok, defaults-ok, put-ok}
 use Rattle.safety.specs.Safe.{Has, Puts}
 use Rattle.safety.specs.Tables.{has-below}
 

@@ -1,14 +1,12 @@
 -- A block that comes to remember a value stays safe.
 use Prim.Native.Nat.{ℕ}
-use mathlib.Core.Path.{_≡_, refl, sym}
+use mathlib.Core.Path.{_≡_, refl}
 use mathlib.Core.Bool.{Bool, true, false, cond}
 use mathlib.Core.Option.{Option, none, some}
-use native.Mathlib.Omega.{arith}
 use lib.Dec.{eqb}
 use borrow.Author.Tests.{eqb-true}
 use Rattle.words.specs.declared.Value.{Value}
 use Rattle.words.specs.declared.Ty.{Ty}
-use Rattle.rules.specs.Maps.{upd}
 use Rattle.rules.specs.Trees.{Expr, new, cast, val, var, add, eq, assign, get, put, call, block, seq, ite, while, throw, try}
 use Rattle.rules.specs.Program.{Program, Env}
 use Rattle.rules.specs.Setting.{Vars}
@@ -16,7 +14,7 @@ use Rattle.rules.specs.Heap.{Heap}
 use Rattle.rules.specs.Step.{View, isSeq, isAssign, isVal, other, view, valueIn, assigned, remember, settle, blocked}
 use Rattle.laws.specs.Maps.{upd-same, upd-twice}
 use Rattle.laws.specs.Classes.{Lower}
-use Rattle.safety.specs.Sets.{⊆-refl, ⊆-trans, ⊆-upd, ⊆-same}
+use Rattle.safety.specs.Sets.{no-one, ⊆-refl, ⊆-trans, ⊆-upd, ⊆-same}
 use Rattle.safety.specs.Conform.{≼-refl, ⊑-refl, conf-le}
 use Rattle.safety.specs.Safe.{Safe, mono}
 
@@ -49,21 +47,21 @@ viewed (try p c x a b) = tt
 -- a value is remembered only where `x := v` stands
 value-in : (e : Expr) (w : View) (v : Value) → Viewed e w → valueIn w ≡ some v → (k : ℕ) × (e ≡ val k v)
 unfolding valueIn
-value-in e (isSeq a b) v s h = absurd (let z : _≡_ {A = ℕ} 0 1 = cc in omega arith)
-value-in e (isAssign y a) v s h = absurd (let z : _≡_ {A = ℕ} 0 1 = cc in omega arith)
+value-in e (isSeq a b) v s h = no-one h
+value-in e (isAssign y a) v s h = no-one h
 value-in e (isVal u) v s h = (s .0, let z : u ≡ v = cc in rw (← z) (s .1))
-value-in e other v s h = absurd (let z : _≡_ {A = ℕ} 0 1 = cc in omega arith)
+value-in e other v s h = no-one h
 
 assigned-in : (x : ℕ) (e : Expr) (w : View) (v : Value) → Viewed e w → assigned x w ≡ some v → (r : ℕ) × (k : ℕ) × (e ≡ assign r x (val k v))
 unfolding assigned
-assigned-in x e (isSeq a b) v s h = absurd (let z : _≡_ {A = ℕ} 0 1 = cc in omega arith)
+assigned-in x e (isSeq a b) v s h = no-one h
 assigned-in x e (isAssign y a) v s h = go (eqb x y) refl h
   where
     go : (t : Bool) → eqb x y ≡ t → cond t (valueIn (view a)) none ≡ some v → (r : ℕ) × (k : ℕ) × (e ≡ assign r x (val k v))
     go true q h = let k = value-in a (view a) v (viewed a) h in (s .0, k .0, rw (eqb-true x y q, ← (k .1)) (s .1))
-    go false q h = absurd (let z : _≡_ {A = ℕ} 0 1 = cc in omega arith)
-assigned-in x e (isVal u) v s h = absurd (let z : _≡_ {A = ℕ} 0 1 = cc in omega arith)
-assigned-in x e other v s h = absurd (let z : _≡_ {A = ℕ} 0 1 = cc in omega arith)
+    go false q h = no-one h
+assigned-in x e (isVal u) v s h = no-one h
+assigned-in x e other v s h = no-one h
 
 module _ (P : Program) (low : Lower P) (p x : ℕ) (u : Ty) (Γ : Env) (I : Vars) (h : Heap) (t : Ty) (J : Vars) where
   remembers : (q r k : ℕ) (v : Value) (b : Expr) → Safe P (block p x u none (seq q (assign r x (val k v)) b)) Γ I h t J

@@ -5,10 +5,9 @@
 use Prim.Native.Nat.{ℕ, _<_}
 use mathlib.Core.Path.{_≡_}
 use mathlib.Core.Bool.{true, false}
-use mathlib.Core.Option.{Option, none, some}
+use mathlib.Core.Option.{some}
 use mathlib.Core.List.{List, [], _∷_}
 use lib.ListN.{length}
-use Rattle.words.specs.declared.Value.{Value}
 use Rattle.words.specs.declared.Ty.{Ty}
 use Rattle.words.specs.declared.Ty.the-variants.{Void, Boolean, Integer, Class}
 use Rattle.rules.specs.Maps.{upd}
@@ -20,8 +19,8 @@ use Rattle.rules.specs.Heap.{Heap}
 use Rattle.rules.specs.Numbers.{fieldType}
 use Rattle.laws.specs.Classes.{Lower}
 use Rattle.figures.specs.Agreement.{never}
-use Rattle.safety.specs.Sets.{_⊆_, ⊆-refl, ⊆-trans, ⊆-upd, _∪_, ∪-left, ∪-right, ∪-join, ∪-map, or-left, enter, leave, assigned, isSome}
-use Rattle.safety.specs.Conform.{_≼_, ≼-refl, _⊑_, ⊑-refl, ⊑-upd, Le, Conf, Holds, le-refl, le-trans, conf-mono, holds-mono}
+use Rattle.safety.specs.Sets.{_⊆_, ⊆-refl, ⊆-trans, _∪_, ∪-left, ∪-join, ∪-map, or-left, enter, leave, assigned, isSome}
+use Rattle.safety.specs.Conform.{_≼_, _⊑_, ⊑-upd, Le, Conf, Holds, le-refl, le-trans, conf-mono, holds-mono}
 
 -- two operands, the first before the second, and what the node asks of their types
 pub record Both (L : Ty → Vars → Type 0) (R : Vars → Ty → Type 0) (S : Ty → Ty → Type 0) : Type 0 where

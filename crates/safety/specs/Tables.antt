@@ -1,15 +1,15 @@
 -- What the tables give: a field that a class sees has its index and type in every object below it; a method seen above is seen
 -- below, with arguments and result that fit.
-use Prim.Native.Nat.{ℕ, zero, suc, _+_, _≤_, _<_}
-use mathlib.Core.Path.{_≡_, refl, sym, ap, _∙_}
+use Prim.Native.Nat.{ℕ, suc, _+_, _≤_, _<_}
+use mathlib.Core.Path.{_≡_, refl, ap, _∙_}
 use mathlib.Core.Logic.{⊎-elim}
 use mathlib.Core.Bool.{Bool, true, false, cond, _&&_}
 use mathlib.Core.Option.{Option, none, some}
 use mathlib.Core.List.{List, [], _∷_, _++_, map, map-append}
 use native.Mathlib.Omega.{arith}
 use lib.Dec.{eqb}
-use lib.ListN.{length, getD, length-append, length-map, List·getD-append}
-use borrow.Author.Tests.{eqb-true, eq-eqb}
+use lib.ListN.{length, length-append, length-map, List·getD-append}
+use borrow.Author.Tests.{eqb-true}
 use Rattle.words.specs.declared.Ty.{Ty}
 use Rattle.words.specs.declared.Ty.the-variants.{Void}
 use Rattle.image.specs.Laws.{and-left, and-right}
@@ -18,11 +18,9 @@ use Rattle.rules.specs.Classes.{orElse, super, subclass, subtype, subtypes, dec
 use Rattle.rules.specs.Numbers.{fieldType}
 use Rattle.laws.specs.Classes.{Lower, class-ind, subclass-refl, subclass-zero, subclass-up, subclass-cases, seesField-zero, seesField-suc, seesMethod-zero, seesMethod-suc, hasFields-zero, hasFields-suc, hasFields-prefix, indexFrom-left, fieldIndex-subclass}
 use Rattle.figures.specs.Agreement.{never}
+use Rattle.safety.specs.Sets.{no-one}
 use Rattle.safety.specs.Conform.{Le, le-refl, le-trans}
 use Rattle.safety.specs.Safe.{Has}
-
-no-one : {A Q : Type 0} {a : A} → _≡_ {A = Option A} none (some a) → Q
-no-one e = absurd (let z : _≡_ {A = ℕ} 0 1 = cc in omega arith)
 
 -- FIELDS
 -- a list holds field (d, f), of type u
@@ -140,7 +138,7 @@ module _ (P : Program) where
             let m = own-found (P .fields) (suc c) f r (q ∙ e) in (
               omega (arith, m .0),
               rw (m .0, hasFields-suc P low c)
-              (found-right (suc c) f (r .type) (hasFields P (super P (suc c))) (own P (P .fields) (suc c)) (has-lacks (suc c) (super P (suc c)) (low c)) (m .1)),
+                  (found-right (suc c) f (r .type) (hasFields P (super P (suc c))) (own P (P .fields) (suc c)) (has-lacks (suc c) (super P (suc c)) (low c)) (m .1)),
             )
 
     pub sees-has : (c f : ℕ) (r : Field) → seesField P c f ≡ some r → Has P c (r .owner) f (r .type)
@@ -191,9 +189,10 @@ module _ (P : Program) where
       go : (b : Bool) → (eqb (x .owner) c && eqb (x .name) m) ≡ b → cond b (some x) (methodIn P ms c m) ≡ some r
           → (methodIn P ms c m ≡ some r → (r .owner ≡ c) × (r .name ≡ m)) → (r .owner ≡ c) × (r .name ≡ m)
       go true q k ih =
-          let z : x ≡ r = cc in
-          (rw (← z) (eqb-true _ _ (and-left (eqb (x .owner) c) (eqb (x .name) m) q)),
-          rw (← z) (eqb-true _ _ (and-right (eqb (x .owner) c) (eqb (x .name) m) q)))
+          let z : x ≡ r = cc in (
+            rw (← z) (eqb-true _ _ (and-left (eqb (x .owner) c) (eqb (x .name) m) q)),
+            rw (← z) (eqb-true _ _ (and-right (eqb (x .owner) c) (eqb (x .name) m) q)),
+          )
       go false q k ih = ih k
 
   module _ (low : Lower P) where

@@ -1,8 +1,8 @@
 -- What the two checks accept is safe, once it is made ready to run.
-use Prim.Native.Nat.{ℕ, zero, suc, _<_}
-use mathlib.Core.Path.{_≡_, refl, sym, ap, _∙_}
-use mathlib.Core.Bool.{Bool, true, false, not, _&&_, _||_}
-use mathlib.Core.Option.{Option, none, some}
+use Prim.Native.Nat.{ℕ, _<_}
+use mathlib.Core.Path.{_≡_, refl, sym}
+use mathlib.Core.Bool.{true, false, not, _&&_, _||_}
+use mathlib.Core.Option.{none, some}
 use mathlib.Core.List.{List, [], _∷_}
 use lib.Dec.{eqb}
 use lib.ListN.{length}
@@ -10,7 +10,7 @@ use borrow.Author.Tests.{eqb-true}
 use Rattle.words.specs.declared.Value.{Value}
 use Rattle.words.specs.declared.Value.the-variants.{Null, Intg, Addr}
 use Rattle.words.specs.declared.Ty.{Ty}
-use Rattle.words.specs.declared.Ty.the-variants.{Void, Boolean, Integer, NT, Class}
+use Rattle.words.specs.declared.Ty.the-variants.{Void, Boolean, Integer, Class}
 use Rattle.words.specs.Value.{Proper}
 use Rattle.image.specs.Laws.{and-left, and-right}
 use Rattle.rules.specs.Maps.{upd}
@@ -25,7 +25,7 @@ use Rattle.laws.specs.Classes.{Lower, subclass-top}
 use Rattle.figures.specs.Agreement.{clash, ok-inj, bind-inv, need-inv, class-inv, found-inv, never}
 use Rattle.safety.specs.Sets.{_⊆_, ⊆-refl, ⊆-trans, ⊆-same, meet-left, meet-right, _∪_, ∪-left, ∪-right, ∪-join}
 use Rattle.safety.specs.Conform.{≼-refl, ⊑-refl, same-type, Le, Conf, le-refl, le-trans, le-same, le-class}
-use Rattle.safety.specs.Safe.{Has, Safe, Safes, move, mono}
+use Rattle.safety.specs.Safe.{Safe, Safes, move, mono}
 use Rattle.safety.specs.Remember.{blocked-safe}
 use Rattle.safety.specs.Tables.{sees-has}
 
@@ -103,7 +103,7 @@ module _ (P : Program) (low : Lower P) where
           operand =
               mono P low (load e) ⊑-refl ⊆-refl ≼-refl (object (class-inv p (a .0) (b .0) (b .1))) ⊆-refl
               (typed-safe e Γ I h (a .0) J k (a .1) d);
-          le = le-same P low (need-inv _ p (Class c) t (b .2) .1);
+          le = le-same P low (need-inv (subclass P (b .0) c || subclass P c (b .0)) p (Class c) t (b .2) .1);
         }
     typed-safe (val p v) Γ I h t J k q d = record { fits = literal-fits p v h t k q; after = is-set d }
     typed-safe (var p x) Γ I h t J k q d =
@@ -112,7 +112,7 @@ module _ (P : Program) (low : Lower P) where
     typed-safe (add p a b) Γ I h t J k q d =
         let i = bind-inv (typing P a Γ) _ t q in
         let j = bind-inv (typing P b Γ) _ t (i .2) in
-        let n = need-inv _ p Integer t (j .2) in
+        let n = need-inv (sameType (i .0) Integer && sameType (j .0) Integer) p Integer t (j .2) in
         let m = bind-inv (setting a I) _ J d in
         record {
           mid = m .0;
@@ -130,7 +130,7 @@ module _ (P : Program) (low : Lower P) where
     typed-safe (eq p a b) Γ I h t J k q d =
         let i = bind-inv (typing P a Γ) _ t q in
         let j = bind-inv (typing P b Γ) _ t (i .2) in
-        let n = need-inv _ p Boolean t (j .2) in
+        let n = need-inv (subtype P (i .0) (j .0) || subtype P (j .0) (i .0)) p Boolean t (j .2) in
         let m = bind-inv (setting a I) _ J d in
         record {
           mid = m .0;
@@ -143,7 +143,7 @@ module _ (P : Program) (low : Lower P) where
     typed-safe (assign p x e) Γ I h t J k q d =
         let i = bind-inv (typing P e Γ) _ t q in
         let u = bind-inv (found p (Γ x)) _ t (i .2) in
-        let n = need-inv _ p (i .0) t (u .2) in
+        let n = need-inv (not (eqb x 0) && subtype P (i .0) (u .0)) p (i .0) t (u .2) in
         let m = bind-inv (setting e I) _ J d in
         record {
           mid = m .0;
@@ -159,7 +159,7 @@ module _ (P : Program) (low : Lower P) where
         let i = bind-inv (typing P e Γ) _ t q in
         let b = bind-inv (class p (i .0)) _ t (i .2) in
         let r = bind-inv (found p (seesField P (b .0) f)) _ t (b .2) in
-        let n = need-inv _ p ((r .0) .type) t (r .2) in
+        let n = need-inv (eqb ((r .0) .owner) c) p ((r .0) .type) t (r .2) in
         let s = found-inv p (seesField P (b .0) f) (r .0) (r .1) in
         record {
           class = b .0;
@@ -175,7 +175,7 @@ module _ (P : Program) (low : Lower P) where
         let w = bind-inv (typing P b Γ) _ t (i .2) in
         let o = bind-inv (class p (i .0)) _ t (w .2) in
         let r = bind-inv (found p (seesField P (o .0) f)) _ t (o .2) in
-        let n = need-inv _ p (w .0) t (r .2) in
+        let n = need-inv (eqb ((r .0) .owner) c && subtype P (w .0) ((r .0) .type)) p (w .0) t (r .2) in
         let s = found-inv p (seesField P (o .0) f) (r .0) (r .1) in
         let m = bind-inv (setting a I) _ J d in
         let y = eqb ((r .0) .owner) c in
@@ -201,7 +201,7 @@ module _ (P : Program) (low : Lower P) where
         let w = bind-inv (typings P es Γ) _ t (i .2) in
         let o = bind-inv (class p (i .0)) _ t (w .2) in
         let r = bind-inv (found p (seesMethod P (o .0) m)) _ t (o .2) in
-        let n = need-inv _ p ((r .0) .result) t (r .2) in
+        let n = need-inv (subtypes P (w .0) ((r .0) .params)) p ((r .0) .result) t (r .2) in
         let y = bind-inv (setting e I) _ J d in
         record {
           mid = y .0;
@@ -239,7 +239,7 @@ module _ (P : Program) (low : Lower P) where
         let w = bind-inv (typing P c Γ) _ t q in
         let i = bind-inv (typing P a Γ) _ t (w .2) in
         let j = bind-inv (typing P b Γ) _ t (i .2) in
-        let n = need-inv _ p (i .0) t (j .2) in
+        let n = need-inv (sameType (w .0) Boolean && sameType (i .0) (j .0)) p (i .0) t (j .2) in
         let m = bind-inv (setting c I) _ J d in
         let A = bind-inv (setting a (m .0)) _ J (m .2) in
         let B = bind-inv (setting b (m .0)) _ J (A .2) in
@@ -262,7 +262,7 @@ module _ (P : Program) (low : Lower P) where
     typed-safe (while p c e) Γ I h t J k q d =
         let w = bind-inv (typing P c Γ) _ t q in
         let i = bind-inv (typing P e Γ) _ t (w .2) in
-        let n = need-inv _ p Void t (i .2) in
+        let n = need-inv (sameType (w .0) Boolean) p Void t (i .2) in
         let m = bind-inv (setting c I) _ J d in
         let r = bind-inv (setting e (m .0)) _ J (m .2) in
         record {
@@ -292,7 +292,7 @@ module _ (P : Program) (low : Lower P) where
     typed-safe (try p c x a b) Γ I h t J k q d =
         let i = bind-inv (typing P a Γ) _ t q in
         let j = bind-inv (typing P b (upd Γ x (some (Class c)))) _ t (i .2) in
-        let n = need-inv _ p (i .0) t (j .2) in
+        let n = need-inv (sameType (i .0) (j .0)) p (i .0) t (j .2) in
         let A = bind-inv (setting a I) _ J d in
         let B = bind-inv (setting b (upd I x true)) _ J (A .2) in
         record {
