@@ -21,11 +21,13 @@ use Rattle.rules.specs.Typing.{ok, typing}
 use Rattle.rules.specs.Heap.{Heap, slotWords, heapOf, wordsOf}
 use Rattle.rules.specs.Conform.{conforms}
 use Rattle.rules.specs.Run.{runOf, heapAfter}
-use Rattle.rules.specs.Numbers.{heapLengthRule, heapWordRule, heapRule, checkRules, conformRules, endNumbers, endValue}
+use Rattle.image.specs.Layout.{layoutRules}
+use Rattle.rules.specs.Numbers.{heapLengthRule, heapWordRule, inputRule, heapRule, inputTypeRule, checkRules, conformRules, endNumbers, endValue}
 use Rattle.laws.specs.Classes.{Lower}
 use Rattle.safety.specs.Conform.{HeapOk, conf-object, below-test}
 use Rattle.safety.specs.Safety.{EndOk}
-use Rattle.safety.specs.Image.{nowhere, Rules, rules-held, accepted-program}
+use native.Mathlib.Omega.{arith}
+use Rattle.safety.specs.Image.{all-held, held-answer, held-join, Rules, rules-held, accepted-program}
 use Rattle.safety.specs.Heaps.{heap-back, class-word, length-back, words-back, objects-back}
 use Rattle.safety.specs.Demand3.{run-safe}
 
@@ -53,6 +55,9 @@ pub data Told (ws : List ℕ) (t : Ty) (end : Answer) (word : Option ℕ) (heap 
 pub record Answered (ws : List ℕ) (t : Ty) (end : Answer) (word : Option ℕ) (heap : List ℕ) : Type 0 where
   pub told : Told ws t end word heap
   pub left : answerOf (heapLengthRule heap ∷ heapWordRule ws heap ∷ heapRule ws heap ∷ []) ≡ accepted
+  -- with inputs that 16 and 18 accept it is a start again
+  pub again : (next : List ℕ) → answerOf (inputRule ws next ∷ inputTypeRule ws heap next ∷ []) ≡ accepted
+      → answerOf (conformRules ws heap next) ≡ accepted
 
 module _ (ws : List ℕ) (low : Lower (program ws)) (R : Rules ws) (t : Ty) (h : Heap) (hk : HeapOk (program ws) h) where
   tells : (e : End) → EndOk (program ws) t h e → Told ws t (endNumbers e) (endWord (endValue e)) (wordsOf h)
@@ -69,13 +74,24 @@ module _ (ws : List ℕ) (low : Lower (program ws)) (R : Rules ws) (t : Ty) (h :
   tells (Stuck q) k = absurd k
 
   heap-answer : answerOf (heapLengthRule (wordsOf h) ∷ heapWordRule ws (wordsOf h) ∷ heapRule ws (wordsOf h) ∷ []) ≡ accepted
-  unfolding answerOf
   heap-answer =
-      rw (
-        nowhere (heapLengthRule (wordsOf h)) (length-back ws low (R .fields) h hk),
-        nowhere (heapWordRule ws (wordsOf h)) (words-back ws low (R .fields) h hk),
-        nowhere (heapRule ws (wordsOf h)) (objects-back ws low (R .fields) h hk),
-      )
+      held-answer (heapLengthRule (wordsOf h) ∷ heapWordRule ws (wordsOf h) ∷ heapRule ws (wordsOf h) ∷ [])
+      (length-back ws low (R .fields) h hk, (words-back ws low (R .fields) h hk, (objects-back ws low (R .fields) h hk, tt)))
+
+  next-start : (next : List ℕ) → answerOf (inputRule ws next ∷ inputTypeRule ws (wordsOf h) next ∷ []) ≡ accepted
+      → answerOf (conformRules ws (wordsOf h) next) ≡ accepted
+  unfolding conformRules inputRule inputTypeRule
+  next-start next e =
+      let k = all-held (inputRule ws next ∷ inputTypeRule ws (wordsOf h) next ∷ []) (omega arith, (omega arith, tt)) e in
+      held-answer (conformRules ws (wordsOf h) next)
+      (held-join (layoutRules ws) _ (R .layout)
+      (R .fields, (length-back ws low (R .fields) h hk, (words-back ws low (R .fields) h hk, (k .0, (objects-back ws low (R .fields) h hk, (k .1 .0, tt)))))))
+
+-- one answer meets the promise of a run
+pub one-answer : {ws hs is : List ℕ} {steps depth : ℕ} {end end' : Answer} {word word' : Option ℕ} {heap heap' : List ℕ}
+    → Ran ws hs is steps depth end word heap → Ran ws hs is steps depth end' word' heap'
+    → (end ≡ end') × (word ≡ word') × (heap ≡ heap')
+one-answer r q = (r .end-is ∙ sym (q .end-is), r .word-is ∙ sym (q .word-is), r .heap-is ∙ sym (q .heap-is))
 
 pub answers-safe : (ws hs is : List ℕ) (check conform : Answer) → check ≡ answerOf (checkRules ws) → conform ≡ answerOf (conformRules ws hs is)
     → check ≡ accepted → conform ≡ accepted
@@ -95,5 +111,6 @@ answers-safe ws hs is check conform a b p q =
           (record {
             told = tells ws (A .low) R (s .0) (e .heap) (r .heapOk) (e .end) (r .ends);
             left = heap-answer ws (A .low) R (s .0) (e .heap) (r .heapOk);
+            again = next-start ws (A .low) R (s .0) (e .heap) (r .heapOk);
           }),
     )

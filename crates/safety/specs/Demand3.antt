@@ -32,7 +32,7 @@ EndsWell ws t h TooDeep = Unit {0}
 EndsWell ws t h (Stuck q) = ⊥
 
 -- It ends well, and 14, 15 and 17 are broken nowhere in the heap's words that it leaves.
-pub record Safe (ws : List ℕ) (t : Ty) (e : Ended) : Type 0 where
+pub record SafeRun (ws : List ℕ) (t : Ty) (e : Ended) : Type 0 where
   pub ends : EndsWell ws t (e .heap) (e .end)
   pub slots : firstPlace (heapLengthRule (heapAfter e)) ≡ Nowhere
   pub words : firstPlace (heapWordRule ws (heapAfter e)) ≡ Nowhere
@@ -45,7 +45,7 @@ Demand3 =
     (ws hs is : List ℕ)
     → answerOf (checkRules ws) ≡ accepted
     → answerOf (conformRules ws hs is) ≡ accepted
-    → (t : Ty) × (typing (program ws) (main ws) (mainEnv ws) ≡ ok t) × ((steps depth : ℕ) → Safe ws t (runOf ws hs is steps depth))
+    → (t : Ty) × (typing (program ws) (main ws) (mainEnv ws) ≡ ok t) × ((steps depth : ℕ) → SafeRun ws t (runOf ws hs is steps depth))
 
 -- THE PROOF
 -- the run as the proofs see it: main's type, and a heap that conforms at the end

@@ -15,7 +15,7 @@ use Rattle.rules.specs.Run.{runOf}
 use Rattle.rules.specs.Numbers.{checkRules, conformRules}
 use Rattle.rules.specs.Computing.{computing}
 use Rattle.rules.specs.Bench.{image, heap}
-use Rattle.safety.specs.Demand3.{Safe, demand-3}
+use Rattle.safety.specs.Demand3.{SafeRun, demand-3}
 
 -- an image, a heap and inputs that the two questions accept
 pub record Accepts (ws hs is : List ℕ) : Type 0 where
@@ -73,9 +73,9 @@ caught = refl
 
 -- So every run of either is safe.
 pub bench-safe : (t : Ty) × (typing (program benchImage) (main benchImage) (mainEnv benchImage) ≡ ok t)
-    × ((steps depth : ℕ) → Safe benchImage t (runOf benchImage (heap 1) [] steps depth))
+    × ((steps depth : ℕ) → SafeRun benchImage t (runOf benchImage (heap 1) [] steps depth))
 bench-safe = demand-3 benchImage (heap 1) [] (bench .check) (bench .conform)
 
 pub hierarchy-safe : (t : Ty) × (typing (program orders) (main orders) (mainEnv orders) ≡ ok t)
-    × ((steps depth : ℕ) → Safe orders t (runOf orders objects inputs steps depth))
+    × ((steps depth : ℕ) → SafeRun orders t (runOf orders objects inputs steps depth))
 hierarchy-safe = demand-3 orders objects inputs (hierarchy .check) (hierarchy .conform)

@@ -72,8 +72,22 @@ nowhere r h = go (firstPlace r) refl
         absurd (let z : _≡_ {A = ℕ} 0 1 = cc (h p (b .within), b .fails) in omega arith)
     go Nowhere e = refl
 
+pub held-answer : (rs : List Rule) → AllHeld rs → answerOf rs ≡ accepted
+unfolding answerOf
+held-answer [] h = refl
+held-answer (r ∷ rs) h = rw (nowhere r (h .0)) (held-answer rs (h .1))
+
+held-split : (rs ss : List Rule) → AllHeld (rs ++ ss) → AllHeld rs × AllHeld ss
+held-split [] ss h = (tt, h)
+held-split (r ∷ rs) ss h = let k = held-split rs ss (h .1) in ((h .0, k .0), k .1)
+
+pub held-join : (rs ss : List Rule) → AllHeld rs → AllHeld ss → AllHeld (rs ++ ss)
+held-join [] ss h k = k
+held-join (r ∷ rs) ss h k = (h .0, held-join rs ss (h .1) k)
+
 -- the rules of an accepted image that the proofs use
 pub record Rules (ws : List ℕ) : Type 0 where
+  pub layout : AllHeld (layoutRules ws)
   pub classes : Held (classRule ws)
   pub nodes : Held (nodeRule ws)
   pub bodies : Held (bodyRule ws)
@@ -86,13 +100,15 @@ pub rules-held : (ws : List ℕ) → answerOf (checkRules ws) ≡ accepted → R
 unfolding checkRules layoutRules recordRules formatRule trailerRule ceilingRule classRule fieldRule methodRule typeRule nodeRule bodyRule fieldsRule overrideRule typingRule settingRule tested
 rules-held ws e =
     let a = all-held (checkRules ws) (omega arith, (omega arith, (omega arith, (omega arith, (omega arith, (omega arith, (omega arith, (omega arith, (omega arith, (omega arith, (omega arith, (omega arith, (omega arith, tt))))))))))))) e in
-    let r = a .1 .1 .1 in
-    let f = r .1 .1 .1 .1 in
-    let g = f .1 .1 in
+    let b = held-split (layoutRules ws) (fieldsRule ws ∷ overrideRule ws ∷ typingRule ws ∷ settingRule ws ∷ []) a in
+    let r = b .0 .1 .1 .1 in
+    let n = r .1 .1 .1 .1 in
+    let g = b .1 in
     record {
+      layout = b .0;
       classes = r .0;
-      nodes = f .0;
-      bodies = f .1 .0;
+      nodes = n .0;
+      bodies = n .1 .0;
       fields = g .0;
       override = g .1 .0;
       typed = g .1 .1 .0;

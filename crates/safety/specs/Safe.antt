@@ -31,20 +31,17 @@ pub record Both (L : Ty → Vars → Type 0) (R : Vars → Ty → Type 0) (S : T
   pub right : R mid typeR
   pub rule : S typeL typeR
 
+pub both-of : {L : Ty → Vars → Type 0} {R : Vars → Ty → Type 0} {S : Ty → Ty → Type 0} (K : Vars) (u w : Ty) → L u K → R K w → S u w
+    → Both L R S
+both-of K u w l r s = record { mid = K; typeL = u; typeR = w; left = l; right = r; rule = s }
+
 pub both-map : {L L' : Ty → Vars → Type 0} {R R' : Vars → Ty → Type 0} {S S' : Ty → Ty → Type 0} (m : Vars → Vars)
     → ((u : Ty) (K : Vars) → L u K → L' u (m K))
     → ((K : Vars) (w : Ty) → R K w → R' (m K) w)
     → ((u w : Ty) → S u w → S' u w)
     → Both L R S → Both L' R' S'
 both-map m f g k s =
-    record {
-      mid = m (s .mid);
-      typeL = s .typeL;
-      typeR = s .typeR;
-      left = f (s .typeL) (s .mid) (s .left);
-      right = g (s .mid) (s .typeR) (s .right);
-      rule = k (s .typeL) (s .typeR) (s .rule);
-    }
+    both-of (m (s .mid)) (s .typeL) (s .typeR) (f (s .typeL) (s .mid) (s .left)) (g (s .mid) (s .typeR) (s .right)) (k (s .typeL) (s .typeR) (s .rule))
 
 module _ (P : Program) where
   -- objects of class c have field f of class d, of type u

@@ -19,7 +19,7 @@ use Rattle.rules.specs.Step.{Store, Out, value, addRedex, eqRedex, newRedex, ca
 use Rattle.rules.specs.Run.{Ended, judge, run}
 use Rattle.safety.specs.Sets.{⊆-refl, ⊆-same, dom, dom-upd}
 use Rattle.safety.specs.Conform.{≼-refl, ⊑-refl, Conf, StoreOk, HeapOk, le-refl, conf-mono, conf-le, store-upd}
-use Rattle.safety.specs.Safe.{Adds, Compares, Puts, Safe, Safes, mono, monos}
+use Rattle.safety.specs.Safe.{both-of, Adds, Compares, Puts, Safe, Safes, mono, monos}
 use Rattle.safety.specs.Redexes.{read-ok, add-ok, eq-ok, new-ok, cast-ok, get-ok, put-safe}
 use Rattle.safety.specs.Steps.{Wf, Good, Goods, keep, redex-good, under-good, unders-good, both-good, if-good, throw-good, assign-good, call-good, try-good, block-good, cons-good, tail-good}
 
@@ -122,14 +122,9 @@ module _ (P : Program) (W : Wf P) where
     good (seq p a b) {h = h} {l = l} t J hk sk s =
         under-good P W hk sk p t J (step P a h l) (λ a'. seq p a' b) _ (s .typeL) (s .mid) (good a (s .typeL) (s .mid) hk sk (s .left))
         (λ h' l' e' x k.
-        record {
-          mid = s .mid;
-          typeL = s .typeL;
-          typeR = s .typeR;
-          left = k;
-          right = mono P (W .low) b ⊑-refl ⊆-refl x (le-refl P (W .low)) ⊆-refl (s .right);
-          rule = s .rule;
-        })
+        both-of (s .mid) (s .typeL) (s .typeR) k
+        (mono P (W .low) b ⊑-refl ⊆-refl x (le-refl P (W .low)) ⊆-refl (s .right))
+        (s .rule))
         (λ q v k i. keep P W hk sk (mono P (W .low) b ⊑-refl i ≼-refl (s .rule .le) ⊆-refl (s .right)))
     good (ite p c a b) {h = h} {l = l} t J hk sk s =
         under-good P W hk sk p t J (step P c h l) (λ c'. ite p c' a b) _ Boolean (s .mid) (good c Boolean (s .mid) hk sk (s .cond))
@@ -150,24 +145,18 @@ module _ (P : Program) (W : Wf P) where
           mid = s .mid;
           cond = mono P (W .low) c ⊑-refl (s .before) ≼-refl (le-refl P (W .low)) ⊆-refl (s .cond);
           yes-arm =
-              record {
-                mid = s .start;
-                typeL = s .type;
-                typeR = t;
-                left = s .body;
-                right =
-                    record {
-                      start = s .start;
-                      mid = s .mid;
-                      type = s .type;
-                      before = ⊆-refl;
-                      cond = s .cond;
-                      body = s .body;
-                      after = s .after;
-                      le = s .le;
-                    };
-                rule = record { le = le-refl P (W .low) };
-              };
+              both-of (s .start) (s .type) t (s .body)
+              (record {
+                start = s .start;
+                mid = s .mid;
+                type = s .type;
+                before = ⊆-refl;
+                cond = s .cond;
+                body = s .body;
+                after = s .after;
+                le = s .le;
+              })
+              (record { le = le-refl P (W .low) });
           no-arm = record { fits = record { proper = tt; below = s .le }; after = s .after };
         })
     good (throw p u e) {h = h} {l = l} t J hk sk s =

@@ -26,7 +26,7 @@ use Rattle.laws.specs.Classes.{Lower}
 use Rattle.figures.specs.Agreement.{never}
 use Rattle.safety.specs.Sets.{no-one, _⊆_, ⊆-refl, ⊆-trans, ⊆-upd, ⊆-same, ∪-join, ∪-right, dom, dom-upd, dom-leave, dom-stay, stay-upd, dom-grow, set-more}
 use Rattle.safety.specs.Conform.{classIn, _≼_, ≼-refl, _⊑_, ⊑-refl, Le, Conf, Holds, StoreOk, HeapOk, AllConf, le-refl, le-trans, conf-mono, conf-le, store-mono, store-set, store-leave, addr-conf, conf-object, system-conf}
-use Rattle.safety.specs.Safe.{Both, Safe, Safes, move, mono, monos}
+use Rattle.safety.specs.Safe.{both-of, Both, Safe, Safes, move, mono, monos}
 use Rattle.safety.specs.Remember.{blocked-safe}
 use Rattle.safety.specs.Tables.{Fits, owner-above}
 use Rattle.safety.specs.Redexes.{RedexOk, bool-value, class-value}
@@ -204,27 +204,17 @@ module _ (P : Program) where
             under-good oa (λ a'. around a' b) _ (s .typeL) (s .mid) (ga (s .typeL) (s .mid) (s .left))
             (λ h' l' e x k.
             node e b h' l'
-            (record {
-              mid = s .mid;
-              typeL = s .typeL;
-              typeR = s .typeR;
-              left = k;
-              right = mono P low b ⊑-refl ⊆-refl x (le-refl P low) ⊆-refl (s .right);
-              rule = s .rule;
-            }))
+            (both-of (s .mid) (s .typeL) (s .typeR) k
+            (mono P low b ⊑-refl ⊆-refl x (le-refl P low) ⊆-refl (s .right))
+            (s .rule)))
             (λ q v k i.
             under-good ob (around (val q v)) _ (s .typeR) J
             (gb (s .typeR) (mono P low b ⊑-refl i ≼-refl (le-refl P low) ⊆-refl (s .right)))
             (λ h' l' e x n.
             node (val q v) e h' l'
-            (record {
-              mid = dom l';
-              typeL = s .typeL;
-              typeR = s .typeR;
-              left = record { fits = conf-mono P low x (le-refl P low) k; after = ⊆-refl };
-              right = n;
-              rule = s .rule;
-            }))
+            (both-of (dom l') (s .typeL) (s .typeR) (record { fits = conf-mono P low x (le-refl P low) k; after = ⊆-refl })
+            n
+            (s .rule)))
             (λ r w n j. redex-good p (then v w) t J (ok v w (s .typeL) (s .typeR) k n (s .rule)) j))
 
         pub if-good : (v : Value) (a b : Expr) → Conf P h v Boolean → Safe P a Γ (dom l) h t J → Safe P b Γ (dom l) h t J

@@ -25,7 +25,7 @@ use Rattle.laws.specs.Classes.{Lower, subclass-top}
 use Rattle.figures.specs.Agreement.{clash, ok-inj, bind-inv, need-inv, class-inv, found-inv, never}
 use Rattle.safety.specs.Sets.{_⊆_, ⊆-refl, ⊆-trans, ⊆-same, meet-left, meet-right, _∪_, ∪-left, ∪-right, ∪-join}
 use Rattle.safety.specs.Conform.{≼-refl, ⊑-refl, same-type, Le, Conf, le-refl, le-trans, le-same, le-class}
-use Rattle.safety.specs.Safe.{Safe, Safes, move, mono}
+use Rattle.safety.specs.Safe.{both-of, Safe, Safes, move, mono}
 use Rattle.safety.specs.Remember.{blocked-safe}
 use Rattle.safety.specs.Tables.{sees-has}
 
@@ -114,32 +114,21 @@ module _ (P : Program) (low : Lower P) where
         let j = bind-inv (typing P b Γ) _ t (i .2) in
         let n = need-inv (sameType (i .0) Integer && sameType (j .0) Integer) p Integer t (j .2) in
         let m = bind-inv (setting a I) _ J d in
-        record {
-          mid = m .0;
-          typeL = i .0;
-          typeR = j .0;
-          left = typed-safe a Γ I h (i .0) (m .0) (k .0) (i .1) (m .1);
-          right = typed-safe b Γ (m .0) h (j .0) J (k .1) (j .1) (m .2);
-          rule =
-              record {
-                first = is-le (and-left (sameType (i .0) Integer) (sameType (j .0) Integer) (n .0));
-                second = is-le (and-right (sameType (i .0) Integer) (sameType (j .0) Integer) (n .0));
-                le = le-same P low (n .1);
-              };
-        }
+        both-of (m .0) (i .0) (j .0) (typed-safe a Γ I h (i .0) (m .0) (k .0) (i .1) (m .1))
+        (typed-safe b Γ (m .0) h (j .0) J (k .1) (j .1) (m .2))
+        (record {
+          first = is-le (and-left (sameType (i .0) Integer) (sameType (j .0) Integer) (n .0));
+          second = is-le (and-right (sameType (i .0) Integer) (sameType (j .0) Integer) (n .0));
+          le = le-same P low (n .1);
+        })
     typed-safe (eq p a b) Γ I h t J k q d =
         let i = bind-inv (typing P a Γ) _ t q in
         let j = bind-inv (typing P b Γ) _ t (i .2) in
         let n = need-inv (subtype P (i .0) (j .0) || subtype P (j .0) (i .0)) p Boolean t (j .2) in
         let m = bind-inv (setting a I) _ J d in
-        record {
-          mid = m .0;
-          typeL = i .0;
-          typeR = j .0;
-          left = typed-safe a Γ I h (i .0) (m .0) (k .0) (i .1) (m .1);
-          right = typed-safe b Γ (m .0) h (j .0) J (k .1) (j .1) (m .2);
-          rule = record { le = le-same P low (n .1) };
-        }
+        both-of (m .0) (i .0) (j .0) (typed-safe a Γ I h (i .0) (m .0) (k .0) (i .1) (m .1))
+        (typed-safe b Γ (m .0) h (j .0) J (k .1) (j .1) (m .2))
+        (record { le = le-same P low (n .1) })
     typed-safe (assign p x e) Γ I h t J k q d =
         let i = bind-inv (typing P e Γ) _ t q in
         let u = bind-inv (found p (Γ x)) _ t (i .2) in
@@ -180,22 +169,16 @@ module _ (P : Program) (low : Lower P) where
         let m = bind-inv (setting a I) _ J d in
         let y = eqb ((r .0) .owner) c in
         let z = subtype P (w .0) ((r .0) .type) in
-        record {
-          mid = m .0;
-          typeL = i .0;
-          typeR = w .0;
-          left = typed-safe a Γ I h (i .0) (m .0) (k .0) (i .1) (m .1);
-          right = typed-safe b Γ (m .0) h (w .0) J (k .1) (w .1) (m .2);
-          rule =
-              record {
-                class = o .0;
-                slot = (r .0) .type;
-                object = le-same P low (class-inv p (i .0) (o .0) (o .1));
-                has = rw (eqb-true ((r .0) .owner) c (and-left y z (n .0))) at (sees-has P low (o .0) f (r .0) s);
-                fits = record { ok = and-right y z (n .0) };
-                le = le-same P low (n .1);
-              };
-        }
+        both-of (m .0) (i .0) (w .0) (typed-safe a Γ I h (i .0) (m .0) (k .0) (i .1) (m .1))
+        (typed-safe b Γ (m .0) h (w .0) J (k .1) (w .1) (m .2))
+        (record {
+          class = o .0;
+          slot = (r .0) .type;
+          object = le-same P low (class-inv p (i .0) (o .0) (o .1));
+          has = rw (eqb-true ((r .0) .owner) c (and-left y z (n .0))) at (sees-has P low (o .0) f (r .0) s);
+          fits = record { ok = and-right y z (n .0) };
+          le = le-same P low (n .1);
+        })
     typed-safe (call p m e es) Γ I h t J k q d =
         let i = bind-inv (typing P e Γ) _ t q in
         let w = bind-inv (typings P es Γ) _ t (i .2) in
@@ -227,14 +210,9 @@ module _ (P : Program) (low : Lower P) where
     typed-safe (seq p a b) Γ I h t J k q d =
         let i = bind-inv (typing P a Γ) _ t q in
         let m = bind-inv (setting a I) _ J d in
-        record {
-          mid = m .0;
-          typeL = i .0;
-          typeR = t;
-          left = typed-safe a Γ I h (i .0) (m .0) (k .0) (i .1) (m .1);
-          right = typed-safe b Γ (m .0) h t J (k .1) (i .2) (m .2);
-          rule = record { le = le-refl P low };
-        }
+        both-of (m .0) (i .0) t (typed-safe a Γ I h (i .0) (m .0) (k .0) (i .1) (m .1))
+        (typed-safe b Γ (m .0) h t J (k .1) (i .2) (m .2))
+        (record { le = le-refl P low })
     typed-safe (ite p c a b) Γ I h t J k q d =
         let w = bind-inv (typing P c Γ) _ t q in
         let i = bind-inv (typing P a Γ) _ t (w .2) in
