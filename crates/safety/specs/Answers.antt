@@ -26,8 +26,7 @@ use Rattle.rules.specs.Numbers.{heapLengthRule, heapWordRule, inputRule, heapRu
 use Rattle.laws.specs.Classes.{Lower}
 use Rattle.safety.specs.Conform.{HeapOk, conf-object, below-test}
 use Rattle.safety.specs.Safety.{EndOk}
-use native.Mathlib.Omega.{arith}
-use Rattle.safety.specs.Image.{all-held, held-answer, held-join, Rules, rules-held, accepted-program}
+use Rattle.safety.specs.Image.{positive, all-held, held-answer, held-join, Rules, rules-held, accepted-program}
 use Rattle.safety.specs.Heaps.{heap-back, class-word, length-back, words-back, objects-back}
 use Rattle.safety.specs.Demand3.{run-safe}
 
@@ -80,9 +79,9 @@ module _ (ws : List ℕ) (low : Lower (program ws)) (R : Rules ws) (t : Ty) (h :
 
   next-start : (next : List ℕ) → answerOf (inputRule ws next ∷ inputTypeRule ws (wordsOf h) next ∷ []) ≡ accepted
       → answerOf (conformRules ws (wordsOf h) next) ≡ accepted
-  unfolding conformRules inputRule inputTypeRule
+  unfolding conformRules inputRule inputTypeRule positive
   next-start next e =
-      let k = all-held (inputRule ws next ∷ inputTypeRule ws (wordsOf h) next ∷ []) (omega arith, (omega arith, tt)) e in
+      let k = all-held (inputRule ws next ∷ inputTypeRule ws (wordsOf h) next ∷ []) refl e in
       held-answer (conformRules ws (wordsOf h) next)
       (held-join (layoutRules ws) _ (R .layout)
       (R .fields, (length-back ws low (R .fields) h hk, (words-back ws low (R .fields) h hk, (k .0, (objects-back ws low (R .fields) h hk, (k .1 .0, tt)))))))

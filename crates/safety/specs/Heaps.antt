@@ -29,7 +29,7 @@ use Rattle.laws.specs.Classes.{Lower}
 use Rattle.laws.specs.Heap.{Words, words, look-obj, obj-word, obj-field, length-heap, length-words, Object, SlotShaped, Shaped, shaped-fits, object-at, heap-shaped, heap-words, word-free, word-class, word-field, shaped-words, written-proper, written-same}
 use Rattle.safety.specs.Sets.{_⊆_, isSome, dom}
 use Rattle.safety.specs.Conform.{classIn, class-slot, in-range, Conf, StoreOk, HeapOk, AllConf, store-upd, below-test, test-below}
-use Rattle.safety.specs.Image.{Held, all-held}
+use Rattle.safety.specs.Image.{Held, positive, all-held}
 
 -- the rules of an accepted start
 pub record Start (ws hs is : List ℕ) : Type 0 where
@@ -41,9 +41,9 @@ pub record Start (ws hs is : List ℕ) : Type 0 where
   pub types : Held (inputTypeRule ws hs is)
 
 pub start-held : (ws hs is : List ℕ) → answerOf (conformRules ws hs is) ≡ accepted → Start ws hs is
-unfolding conformRules layoutRules recordRules formatRule trailerRule ceilingRule classRule fieldRule methodRule typeRule nodeRule bodyRule fieldsRule heapLengthRule heapWordRule inputRule heapRule inputTypeRule tested
+unfolding conformRules layoutRules recordRules formatRule trailerRule ceilingRule classRule fieldRule methodRule typeRule nodeRule bodyRule fieldsRule heapLengthRule heapWordRule inputRule heapRule inputTypeRule tested positive
 start-held ws hs is e =
-    let a = all-held (conformRules ws hs is) (omega arith, (omega arith, (omega arith, (omega arith, (omega arith, (omega arith, (omega arith, (omega arith, (omega arith, (omega arith, (omega arith, (omega arith, (omega arith, (omega arith, (omega arith, tt))))))))))))))) e in
+    let a = all-held (conformRules ws hs is) refl e in
     let f = a .1 .1 .1 .1 .1 .1 .1 .1 .1 in
     let g = f .1 .1 .1 in
     record { fields = f .0; length = f .1 .0; words = f .1 .1 .0; inputs = g .0; objects = g .1 .0; types = g .1 .1 .0 }

@@ -1,7 +1,6 @@
 -- From the words of an accepted image to a checked program: the answer 0 means that each rule holds at each of its places.
 use Prim.Native.Nat.{ℕ, zero, suc, _-_, _^_, _<_}
-use mathlib.Core.Path.{_≡_, refl}
-use mathlib.Core.Logic.{inl, inr}
+use mathlib.Core.Path.{_≡_, refl, ap}
 use mathlib.Core.Bool.{Bool, true, false, cond, _&&_}
 use mathlib.Core.Option.{none, some}
 use mathlib.Core.List.{List, [], _∷_, _++_, map, map-append}
@@ -11,15 +10,16 @@ use lib.ListN.{length, getD, List·getD-eq-default}
 use borrow.Author.Tests.{ltb-true, ltb-false}
 use Rattle.order.specs.declared.Found.{Found}
 use Rattle.order.specs.declared.Found.the-variants.{At, Nowhere}
-use Rattle.order.specs.Rules.{Rule, Sound, answerOf, accepted, firstPlace}
-use Rattle.order.specs.Lowest.{Rising, accepts, found}
+use Rattle.order.specs.declared.Answer.{Answer}
+use Rattle.order.specs.Rules.{Rule, answerOf, accepted, firstPlace, orElse}
+use Rattle.order.specs.Lowest.{held, found}
 use Rattle.words.specs.declared.Ty.{Ty}
 use Rattle.words.specs.declared.Value.{Value}
 use Rattle.words.specs.declared.Value.the-variants.{Null, Intg, Addr}
 use Rattle.words.specs.Value.{Proper, addresses, given, valueWith}
 use Rattle.image.specs.declared.Kind.{Kind}
 use Rattle.image.specs.declared.Kind.the-variants.{New, Cast, Value as Literal, Var, Add, Eq, Assign, Get, Set, Call, Block, Seq, If, While, Throw, Try, Unknown}
-use Rattle.image.specs.Laws.{and-left}
+use Rattle.image.specs.Laws.{and-left, and-right}
 use Rattle.image.specs.Trailer.{classCount, methodCount, nodeCount, mainNode, inputCount}
 use Rattle.image.specs.Records.{methodWord}
 use Rattle.image.specs.Nodes.{nodeWord, kindOf, isClass, isUnused, namesHold, operands, reach, sizeIs, nodeHolds, bodyStart}
@@ -51,16 +51,22 @@ abbrev pub AllHeld : List Rule → Type 0
 AllHeld [] = Unit {0}
 AllHeld (r ∷ rs) = Held r × AllHeld rs
 
-sound-held : (rs : List Rule) → Sound rs → AllHeld rs
-sound-held [] s = tt
-sound-held (r ∷ rs) s = (λ p l. go p l (r .holds p) refl, sound-held rs (record { none = λ n p b. s .none n p (inr b) }))
-  where
-    go : (p : ℕ) → p < r .places → (b : Bool) → r .holds p ≡ b → b ≡ true
-    go p l true e = refl
-    go p l false e = absurd (s .none (r .number) p (inl (refl, record { within = l; fails = e })))
+-- the answer 0 is no rule's own
+unfoldable pub positive : List Rule → Bool
+positive [] = true
+positive (r ∷ rs) = ltb 0 (r .number) && positive rs
 
-pub all-held : (rs : List Rule) → Rising 0 rs → answerOf rs ≡ accepted → AllHeld rs
-all-held rs g e = sound-held rs (accepts rs g .0 e)
+pub all-held : (rs : List Rule) → positive rs ≡ true → answerOf rs ≡ accepted → AllHeld rs
+unfolding positive answerOf
+all-held [] p e = tt
+all-held (r ∷ rs) p e =
+    let k = go (firstPlace r) refl e in (k .0, all-held rs (and-right (ltb 0 (r .number)) (positive rs) p) (k .1))
+  where
+    go : (f : Found) → firstPlace r ≡ f → orElse (r .number) f (answerOf rs) ≡ accepted → Held r × (answerOf rs ≡ accepted)
+    go (At q) f z =
+        let n : r .number ≡ 0 = ap (λ (a : Answer). a .number) z in
+        absurd (omega (arith, ltb-true 0 (r .number) (and-left (ltb 0 (r .number)) (positive rs) p)))
+    go Nowhere f z = (held r f, z)
 
 -- and then it is broken nowhere
 pub nowhere : (r : Rule) → Held r → firstPlace r ≡ Nowhere
@@ -97,9 +103,9 @@ pub record Rules (ws : List ℕ) : Type 0 where
   pub sets : Held (settingRule ws)
 
 pub rules-held : (ws : List ℕ) → answerOf (checkRules ws) ≡ accepted → Rules ws
-unfolding checkRules layoutRules recordRules formatRule trailerRule ceilingRule classRule fieldRule methodRule typeRule nodeRule bodyRule fieldsRule overrideRule typingRule settingRule tested
+unfolding checkRules layoutRules recordRules formatRule trailerRule ceilingRule classRule fieldRule methodRule typeRule nodeRule bodyRule fieldsRule overrideRule typingRule settingRule tested positive
 rules-held ws e =
-    let a = all-held (checkRules ws) (omega arith, (omega arith, (omega arith, (omega arith, (omega arith, (omega arith, (omega arith, (omega arith, (omega arith, (omega arith, (omega arith, (omega arith, (omega arith, tt))))))))))))) e in
+    let a = all-held (checkRules ws) refl e in
     let b = held-split (layoutRules ws) (fieldsRule ws ∷ overrideRule ws ∷ typingRule ws ∷ settingRule ws ∷ []) a in
     let r = b .0 .1 .1 .1 in
     let n = r .1 .1 .1 .1 in
