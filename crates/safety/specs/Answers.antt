@@ -43,9 +43,11 @@ pub record Ran (ws hs is : List ℕ) (steps depth : ℕ) (end : Answer) (word : 
 
 -- what it tells: a value of main's type t, an object's address, or a limit; 34, stuck, is not among them
 pub data Told (ws : List ℕ) (t : Ty) (end : Answer) (word : Option ℕ) (heap : List ℕ) : Type 0 where
-  returned : (w : ℕ) (v : Value) → end .number ≡ 30 → word ≡ some w → valueOf w ≡ Is v → conforms (program ws) (heapOf (program ws) heap) v t ≡ true
+  returned : (w : ℕ) (v : Value) → end .number ≡ 30 → word ≡ some w → valueOf w ≡ Is v
+      → conforms (program ws) (heapOf (program ws) heap) v t ≡ true
       → Told ws t end word heap
-  threw : (w a c : ℕ) → end .number ≡ 31 → word ≡ some w → valueOf w ≡ Is (Addr a) → getD heap (slotWords * a) 0 ≡ suc c → c < classCount ws
+  threw : (w a c : ℕ) → end .number ≡ 31 → word ≡ some w → valueOf w ≡ Is (Addr a) → getD heap (slotWords * a) 0 ≡ suc c
+      → c < classCount ws
       → Told ws t end word heap
   outOfSteps : end .number ≡ 32 → Told ws t end word heap
   tooDeep : end .number ≡ 33 → Told ws t end word heap
@@ -82,9 +84,11 @@ module _ (ws : List ℕ) (low : Lower (program ws)) (R : Rules ws) (t : Ty) (h :
   unfolding conformRules inputRule inputTypeRule positive
   next-start next e =
       let k = all-held (inputRule ws next ∷ inputTypeRule ws (wordsOf h) next ∷ []) refl e in
+      let a = length-back ws low (R .fields) h hk in
+      let b = words-back ws low (R .fields) h hk in
+      let c = objects-back ws low (R .fields) h hk in
       held-answer (conformRules ws (wordsOf h) next)
-      (held-join (layoutRules ws) _ (R .layout)
-      (R .fields, (length-back ws low (R .fields) h hk, (words-back ws low (R .fields) h hk, (k .0, (objects-back ws low (R .fields) h hk, (k .1 .0, tt)))))))
+      (held-join (layoutRules ws) _ (R .layout) (R .fields, (a, (b, (k .0, (c, (k .1 .0, tt)))))))
 
 -- one answer meets the promise of a run
 pub one-answer : {ws hs is : List ℕ} {steps depth : ℕ} {end end' : Answer} {word word' : Option ℕ} {heap heap' : List ℕ}
@@ -92,10 +96,12 @@ pub one-answer : {ws hs is : List ℕ} {steps depth : ℕ} {end end' : Answer} {
     → (end ≡ end') × (word ≡ word') × (heap ≡ heap')
 one-answer r q = (r .end-is ∙ sym (q .end-is), r .word-is ∙ sym (q .word-is), r .heap-is ∙ sym (q .heap-is))
 
-pub answers-safe : (ws hs is : List ℕ) (check conform : Answer) → check ≡ answerOf (checkRules ws) → conform ≡ answerOf (conformRules ws hs is)
+pub answers-safe : (ws hs is : List ℕ) (check conform : Answer) → check ≡ answerOf (checkRules ws)
+    → conform ≡ answerOf (conformRules ws hs is)
     → check ≡ accepted → conform ≡ accepted
     → (t : Ty) × (typing (program ws) (main ws) (mainEnv ws) ≡ ok t)
-    × ((steps depth : ℕ) (end : Answer) (word : Option ℕ) (heap : List ℕ) → Ran ws hs is steps depth end word heap → Answered ws t end word heap)
+    × ((steps depth : ℕ) (end : Answer) (word : Option ℕ) (heap : List ℕ) → Ran ws hs is steps depth end word heap
+    → Answered ws t end word heap)
 unfolding heapAfter
 answers-safe ws hs is check conform a b p q =
     let R = rules-held ws (sym a ∙ p) in

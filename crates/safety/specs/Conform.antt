@@ -172,7 +172,8 @@ module _ (P : Program) where
     below-le none p b = b
     below-le (some w) p b = le-trans b p
 
-    slot-grows : (s s' : Slot) (t : Ty) → ((c : ℕ) → classIn s ≡ some c → classIn s' ≡ some c) → Below (typeAt s) t → Below (typeAt s') t
+    slot-grows : (s s' : Slot) (t : Ty) → ((c : ℕ) → classIn s ≡ some c → classIn s' ≡ some c) → Below (typeAt s) t
+        → Below (typeAt s') t
     slot-grows free s' t e b = absurd b
     slot-grows (obj c vs) s' t e b = let k = class-slot s' c (e c refl) in rw (k .1) b
 
@@ -227,7 +228,8 @@ module _ (P : Program) where
     slot-object free t b = absurd b
     slot-object (obj c vs) t b = (c, vs, refl, b)
 
-    pub conf-object : {h : Heap} {a : ℕ} {t : Ty} → Conf h (Addr a) t → (c : ℕ) × (vs : List Value) × (look h a ≡ obj c vs) × Le (Class c) t
+    pub conf-object : {h : Heap} {a : ℕ} {t : Ty} → Conf h (Addr a) t
+        → (c : ℕ) × (vs : List Value) × (look h a ≡ obj c vs) × Le (Class c) t
     conf-object {h} {a} {t} b = slot-object (look h a) t (b .below)
 
     -- the objects that a run throws by itself

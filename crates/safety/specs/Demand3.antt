@@ -50,7 +50,8 @@ Demand3 =
 -- THE PROOF
 -- the run as the proofs see it: main's type, and a heap that conforms at the end
 pub run-safe : (ws hs is : List ℕ) → answerOf (checkRules ws) ≡ accepted → answerOf (conformRules ws hs is) ≡ accepted
-    → (t : Ty) × (typing (program ws) (main ws) (mainEnv ws) ≡ ok t) × ((steps depth : ℕ) → RunOk (program ws) t (runOf ws hs is steps depth))
+    → (t : Ty) × (typing (program ws) (main ws) (mainEnv ws) ≡ ok t)
+    × ((steps depth : ℕ) → RunOk (program ws) t (runOf ws hs is steps depth))
 unfolding runOf
 run-safe ws hs is checked started =
     let R = rules-held ws checked in

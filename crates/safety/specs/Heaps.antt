@@ -99,7 +99,8 @@ module _ (ws : List ℕ) (low : Lower (program ws)) where
                     λ i l.
                     let n : i < length (hasFields P c) = rw (o .count) at l in
                     let q : slotWords * a + 1 + i ≡ slotWords * a + suc i = omega arith in
-                    let k : conforms P (heapOf P hs) (written (valueOf (getD hs (slotWords * a + suc i) 0))) (fieldType (hasFields P c) i) ≡ true =
+                    let k : conforms P (heapOf P hs) (written (valueOf (getD hs (slotWords * a + suc i) 0)))
+                    (fieldType (hasFields P c) i) ≡ true =
                     rw (w, lt-ltb i (length (hasFields P c)) n) at (conform-at a (suc i) (omega (arith, o .few)) m) in
                     record {
                       proper = o .proper i;
@@ -135,8 +136,8 @@ module _ (ws : List ℕ) (low : Lower (program ws)) where
     input-count =
         let n = inputCount ws in
         let h = S .inputs n (below-max (length is) n) in
-        let t : cond true (eqb (length is) n) true ≡ true = and-left _ (cond (ltb n (length is)) (isIs (valueOf (getD is n 0))) true) (rw (eq-eqb n n refl) at h) in
-        eqb-true _ _ t
+        let value = cond (ltb n (length is)) (isIs (valueOf (getD is n 0))) true in
+        eqb-true _ _ (and-left (eqb (length is) n) value (rw (eq-eqb n n refl) at h))
       where
         below-max : (a b : ℕ) → b < suc (max a b)
         below-max a b = omega arith
@@ -161,7 +162,14 @@ module _ (ws : List ℕ) (low : Lower (program ws)) where
 
     pub inputs-set : between 1 (inputCount ws) ⊆ dom (from 1 (valuesOf is))
     unfolding between
-    inputs-set = record { at = λ x e. go x (leb-true 1 x (and-left (leb 1 x) (leb x (inputCount ws)) e)) (leb-true x (inputCount ws) (and-right (leb 1 x) (leb x (inputCount ws)) e)) }
+    inputs-set =
+        record {
+          at =
+              λ x e.
+              let a = leb 1 x in
+              let b = leb x (inputCount ws) in
+              go x (leb-true _ _ (and-left a b e)) (leb-true _ _ (and-right a b e));
+        }
       where
         go : (x : ℕ) → 1 ≤ x → x ≤ inputCount ws → isSome (from 1 (valuesOf is) x) ≡ true
         go x l m =
@@ -217,7 +225,8 @@ module _ (ws : List ℕ) (low : Lower (program ws)) where
     unfolding heapWordRule
     words-back = shaped-words P (classCount ws) h shaped few-fields .holds
 
-    pub class-word : (a c : ℕ) (vs : List Value) → look h a ≡ obj c vs → (getD (wordsOf h) (slotWords * a) 0 ≡ suc c) × (c < classCount ws)
+    pub class-word : (a c : ℕ) (vs : List Value) → look h a ≡ obj c vs
+        → (getD (wordsOf h) (slotWords * a) 0 ≡ suc c) × (c < classCount ws)
     class-word a c vs e = (word-class P (classCount ws) h shaped a c vs e, object-shaped a c vs e .class)
 
     -- the class word and the field words of slot a
@@ -247,7 +256,13 @@ module _ (ws : List ℕ) (low : Lower (program ws)) where
             let l : j < length vs = rw (o .count) (ltb-true _ _ q) in
             let k = o .field j l in
             let z : slotWords * a + suc j ≡ slotWords * a + 1 + j = omega arith in
-            rw (heap-back, z, word-field P (classCount ws) h shaped a c vs e j Value.Unit l, written-same (getD vs j Value.Unit) (k .proper))
+            rw (
+              heap-back,
+              z,
+              word-field P (classCount ws) h shaped a c vs e j Value.Unit l,
+              written-same (getD vs j Value.Unit)
+                  (k .proper),
+            )
             (below-test P low h (getD vs j Value.Unit) (fieldType (hasFields P c) j) (k .below))
         go false q = refl
 

@@ -210,7 +210,8 @@ module _ (ws : List ℕ) where
   known-tree h n l = rw length-tabulate (known-forest (suc n) 0 (λ m k. h m (omega arith)))
 
   -- a method that the table has is one of the image's
-  method-of : (c m : ℕ) (r : Method) (P : Program) (n : ℕ) (f : ℕ → Method) → methodIn P (tabulate n f) c m ≡ some r → (i : ℕ) × (i < n) × (f i ≡ r)
+  method-of : (c m : ℕ) (r : Method) (P : Program) (n : ℕ) (f : ℕ → Method) → methodIn P (tabulate n f) c m ≡ some r
+      → (i : ℕ) × (i < n) × (f i ≡ r)
   unfolding methodIn tabulate
   method-of c m r P zero f e = no-one e
   method-of c m r P (suc n) f e =
@@ -236,13 +237,15 @@ module _ (ws : List ℕ) where
         × AllHold (map (siteTyped (program ws)) (sites (main ws) (mainEnv ws) none))
     unfolding typingRule allSites
     typed-tests =
-        all-bodies (methodCount ws) (λ i. map (siteTyped (program ws)) (methodSites ws i)) (map (siteTyped (program ws)) (sites (main ws) (mainEnv ws) none))
+        all-bodies (methodCount ws) (λ i. map (siteTyped (program ws)) (methodSites ws i))
+        (map (siteTyped (program ws)) (sites (main ws) (mainEnv ws) none))
         (simp (map-append, map-joined, map-tabulate) at (tested-all 12 (map (siteTyped (program ws)) (allSites ws)) (R .typed)))
 
     read-tests : ((i : ℕ) → i < methodCount ws → AllHold (methodReads ws i)) × AllHold (reads (main ws) (between 1 (inputCount ws)))
     unfolding settingRule allReads
     read-tests =
-        all-bodies (methodCount ws) (methodReads ws) (reads (main ws) (between 1 (inputCount ws))) (tested-all 13 (allReads ws) (R .sets))
+        all-bodies (methodCount ws) (methodReads ws) (reads (main ws) (between 1 (inputCount ws)))
+        (tested-all 13 (allReads ws) (R .sets))
 
     body-ok : (i : ℕ) → i < methodCount ws → BodyOk (program ws) (methodAt ws i)
     unfolding methodSites methodReads bounded methodAt
@@ -256,7 +259,8 @@ module _ (ws : List ℕ) where
           type = t .0;
           checked =
               record {
-                known = known-tree nodes-hold n (body-holds ws (bodyStart ws i) n (method-filled ws i l (bodies-hold i (omega arith))) .0);
+                known =
+                    known-tree nodes-hold n (body-holds ws (bodyStart ws i) n (method-filled ws i l (bodies-hold i (omega arith))) .0);
                 typed = t .1;
                 after = after (r .body) (between 0 (length (r .params)));
                 sets = setting-exactly (r .body) (between 0 (length (r .params))) .1 (read-tests .0 i l);
@@ -283,6 +287,10 @@ module _ (ws : List ℕ) where
     accepted-program =
         record {
           low = lower ws (λ c l. R .classes c (omega arith));
-          overrides = λ c m r e. let k = method-of c m r (program ws) (methodCount ws) (methodAt ws) e in rw (← k .2) (R .override (k .0) (k .1));
-          bodies = λ c m r e. let k = method-of c m r (program ws) (methodCount ws) (methodAt ws) e in rw (← k .2) (body-ok (k .0) (k .1));
+          overrides =
+              λ c m r e.
+              let k = method-of c m r (program ws) (methodCount ws) (methodAt ws) e in rw (← k .2) (R .override (k .0) (k .1));
+          bodies =
+              λ c m r e.
+              let k = method-of c m r (program ws) (methodCount ws) (methodAt ws) e in rw (← k .2) (body-ok (k .0) (k .1));
         }

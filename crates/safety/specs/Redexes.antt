@@ -92,7 +92,8 @@ module _ (P : Program) where
       unfolding eqRedex
       eq-ok v w s = same (record { proper = tt; below = s })
 
-      pub new-ok : (c : ℕ) (o : Option ℕ) → lowestFree h ≡ o → c < length (P .supers) → Le P (Class c) t → RedexOk h t (newRedex P h c o)
+      pub new-ok : (c : ℕ) (o : Option ℕ) → lowestFree h ≡ o → c < length (P .supers) → Le P (Class c) t
+          → RedexOk h t (newRedex P h c o)
       unfolding newRedex
       new-ok c none e k s = system-conf P low outOfMemory (omega arith) hk
       new-ok c (some a) e k s =
@@ -118,7 +119,8 @@ module _ (P : Program) where
           go a d vs e true u = same (conf-le P low s (addr-conf P low a d c hk (ap classIn e) u))
           go a d vs e false u = system-conf P low classCast (omega arith) hk
 
-      pub get-ok : (f d : ℕ) (v : Value) {c : ℕ} {u : Ty} → Conf P h v (Class c) → Has P c d f u → Le P u t → RedexOk h t (getRedex P h f d v)
+      pub get-ok : (f d : ℕ) (v : Value) {c : ℕ} {u : Ty} → Conf P h v (Class c) → Has P c d f u → Le P u t
+          → RedexOk h t (getRedex P h f d v)
       unfolding getRedex getSlot getField
       get-ok f d v {c} {u} k m s =
           class-value (λ v. RedexOk h t (getRedex P h f d v)) v c k (system-conf P low nullPointer (omega arith) hk)
@@ -128,7 +130,8 @@ module _ (P : Program) where
           rw (e, n .found)
           (same (conf-le P low s (rw (n .typed) at (o .field (n .index) (rw (o .count) (n .within)))))))
 
-      pub put-safe : (f d : ℕ) (v w : Value) {u u' : Ty} → Conf P h v u → Conf P h w u' → Puts P f d t u u' → RedexOk h t (putRedex P h f d v w)
+      pub put-safe : (f d : ℕ) (v w : Value) {u u' : Ty} → Conf P h v u → Conf P h w u' → Puts P f d t u u'
+          → RedexOk h t (putRedex P h f d v w)
       unfolding putRedex putSlot putField
       put-safe f d v w {u} {u'} k j r =
           class-value (λ v. RedexOk h t (putRedex P h f d v w)) v (r .class) (conf-le P low (r .object) k)

@@ -52,7 +52,8 @@ value-in e (isAssign y a) v s h = no-one h
 value-in e (isVal u) v s h = (s .0, let z : u ≡ v = cc in rw (← z) (s .1))
 value-in e other v s h = no-one h
 
-assigned-in : (x : ℕ) (e : Expr) (w : View) (v : Value) → Viewed e w → assigned x w ≡ some v → (r : ℕ) × (k : ℕ) × (e ≡ assign r x (val k v))
+assigned-in : (x : ℕ) (e : Expr) (w : View) (v : Value) → Viewed e w → assigned x w ≡ some v
+    → (r : ℕ) × (k : ℕ) × (e ≡ assign r x (val k v))
 unfolding assigned
 assigned-in x e (isSeq a b) v s h = no-one h
 assigned-in x e (isAssign y a) v s h = go (eqb x y) refl h
@@ -82,7 +83,8 @@ module _ (P : Program) (low : Lower P) (p x : ℕ) (u : Ty) (Γ : Env) (I : Vars
         after = s .after;
       }
 
-  remember-safe : (q : ℕ) (a b e : Expr) (o : Option Value) → assigned x (view a) ≡ o → e ≡ seq q a b → Safe P (block p x u none e) Γ I h t J
+  remember-safe : (q : ℕ) (a b e : Expr) (o : Option Value) → assigned x (view a) ≡ o → e ≡ seq q a b
+      → Safe P (block p x u none e) Γ I h t J
       → Safe P (remember p x u e b o) Γ I h t J
   unfolding remember
   remember-safe q a b e none z i s = s

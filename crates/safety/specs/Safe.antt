@@ -41,7 +41,8 @@ pub both-map : {L L' : Ty → Vars → Type 0} {R R' : Vars → Ty → Type 0} {
     → ((u w : Ty) → S u w → S' u w)
     → Both L R S → Both L' R' S'
 both-map m f g k s =
-    both-of (m (s .mid)) (s .typeL) (s .typeR) (f (s .typeL) (s .mid) (s .left)) (g (s .mid) (s .typeR) (s .right)) (k (s .typeL) (s .typeR) (s .rule))
+    both-of (m (s .mid)) (s .typeL) (s .typeR) (f (s .typeL) (s .mid) (s .left)) (g (s .mid) (s .typeR) (s .right))
+    (k (s .typeL) (s .typeR) (s .rule))
 
 module _ (P : Program) where
   -- objects of class c have field f of class d, of type u
@@ -156,7 +157,8 @@ module _ (P : Program) where
     mutual
       unfolding Safe
 
-      pub move : (e : Expr) {Γ Δ : Env} {I' J' : Vars} {h h' : Heap} {t t' : Ty} (F I J : Vars) → Γ ⊑ Δ → I ∪ F ⊆ I' → h ≼ h' → Le P t t'
+      pub move : (e : Expr) {Γ Δ : Env} {I' J' : Vars} {h h' : Heap} {t t' : Ty} (F I J : Vars) → Γ ⊑ Δ → I ∪ F ⊆ I' → h ≼ h'
+          → Le P t t'
           → J' ⊆ J ∪ F → Safe e Γ I h t J → Safe e Δ I' h' t' J'
       move (new p c) F I J g i x w j s = record { known = s .known; le = le-trans P low (s .le) w; after = through F j (s .after) i }
       move (cast p c e) F I J g i x w j s =
@@ -220,7 +222,8 @@ module _ (P : Program) where
             mid = s .mid ∪ upd F y false;
             held = holds-mono P low mv (some u) x (s .held);
             body =
-                move e (upd F y false) (upd I y (isSome mv)) (s .mid) (⊑-upd y (some u) g) (enter I F y (isSome mv) i) x w ⊆-refl (s .body);
+                move e (upd F y false) (upd I y (isSome mv)) (s .mid) (⊑-upd y (some u) g) (enter I F y (isSome mv) i) x w ⊆-refl
+                (s .body);
             after = leave F (s .mid) I y j (s .after) i;
           }
       move (seq p a b) F I J g i x w j s =
@@ -253,7 +256,8 @@ module _ (P : Program) where
             mid = s .mid ∪ upd F y false;
             body = move a F I J g i x w j (s .body);
             handler =
-                move b (upd F y false) (upd I y true) (s .mid) (⊑-upd y (some (Class c)) g) (enter I F y true i) x w ⊆-refl (s .handler);
+                move b (upd F y false) (upd I y true) (s .mid) (⊑-upd y (some (Class c)) g) (enter I F y true i) x w ⊆-refl
+                (s .handler);
             after = leave F (s .mid) I y j (s .after) i;
           }
 

@@ -44,7 +44,8 @@ module _ (P : Program) (W : Wf P) where
     pub good : (e : Expr) {Γ : Env} {h : Heap} {l : Store} (t : Ty) (J : Vars) → HeapOk P h → StoreOk P h l Γ → Safe P e Γ (dom l) h t J
         → Good P Γ t J h l (step P e h l)
     good (new p c) {h = h} t J hk sk s =
-        redex-good P W hk sk p (newRedex P h c (lowestFree h)) t J (new-ok P (W .low) hk c (lowestFree h) refl (s .known) (s .le)) (s .after)
+        redex-good P W hk sk p (newRedex P h c (lowestFree h)) t J (new-ok P (W .low) hk c (lowestFree h) refl (s .known) (s .le))
+        (s .after)
     good (cast p c e) {h = h} {l = l} t J hk sk s =
         under-good P W hk sk p t J (step P e h l) (cast p c) _ (Class 0) J (good e (Class 0) J hk sk (s .operand))
         (λ h' l' e' x k. record { operand = k; le = s .le })
@@ -178,7 +179,8 @@ module _ (P : Program) (W : Wf P) where
         (goods es (s .types) J hk sk (monos P (W .low) es (s .types) ⊑-refl i ≼-refl ⊆-refl (s .rest))))
 
   -- A RUN
-  judge-ok : (depth k : ℕ) (t : Ty) (J : Vars) {Γ : Env} {h : Heap} (l : Store) (o : Out) (on : Heap → Store → Expr → Ended) → HeapOk P h
+  judge-ok : (depth k : ℕ) (t : Ty) (J : Vars) {Γ : Env} {h : Heap} (l : Store) (o : Out) (on : Heap → Store → Expr → Ended)
+      → HeapOk P h
       → Good P Γ t J h l o
       → ((h' : Heap) (l' : Store) (e : Expr) → HeapOk P h' → StoreOk P h' l' Γ → Safe P e Γ (dom l') h' t J → RunOk P t (on h' l' e))
       → RunOk P t (judge depth k h o on)

@@ -80,7 +80,8 @@ enter {I'} I F x b s = record { at = λ y. go (eqb x y) (I y) (F y) (I' y) (s .a
     go false i f i' r t = r t
 
 -- and outside the variable stands as before;
-pub leave : {J' J I' : Vars} (F K I : Vars) (x : ℕ) → J' ⊆ J ∪ F → J ⊆ upd K x (I x) → I ∪ F ⊆ I' → J' ⊆ upd (K ∪ upd F x false) x (I' x)
+pub leave : {J' J I' : Vars} (F K I : Vars) (x : ℕ) → J' ⊆ J ∪ F → J ⊆ upd K x (I x) → I ∪ F ⊆ I'
+    → J' ⊆ upd (K ∪ upd F x false) x (I' x)
 unfolding upd
 leave {J'} {J} {I'} F K I x j s i = record { at = λ y t. go y (eqb x y) refl (s .at y) (j .at y t) }
   where

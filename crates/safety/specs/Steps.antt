@@ -75,7 +75,10 @@ set-from (t ∷ ts) I x y l m = go (ℕ-discrete x y) (λ k. set-from ts (upd I 
 between-set : (t : Ty) (ts : List Ty) (I : Vars) → between 0 (length ts) ⊆ setFrom I 0 (t ∷ ts)
 unfolding between
 between-set t ts I =
-    record { at = λ x e. set-from (t ∷ ts) I 0 x (omega arith) (omega (arith, leb-true x (length ts) (and-right (leb 0 x) (leb x (length ts)) e))) }
+    record {
+      at = λ x e. set-from (t ∷ ts) I 0 x (omega arith)
+          (omega (arith, leb-true x (length ts) (and-right (leb 0 x) (leb x (length ts)) e)));
+    }
 
 module _ (P : Program) where
   -- what an accepted program gives: 4, 11, 12 and 13
@@ -250,7 +253,8 @@ module _ (P : Program) where
             }
 
         -- a call: the blocks around the body of the method that the object's class sees
-        enter-good : (a c m : ℕ) (fs vs : List Value) (r : Method) → look h a ≡ obj c fs → seesMethod P c m ≡ some r → AllConf P h vs (r .params)
+        enter-good : (a c m : ℕ) (fs vs : List Value) (r : Method) → look h a ≡ obj c fs → seesMethod P c m ≡ some r
+            → AllConf P h vs (r .params)
             → Le P (r .result) t → J ⊆ dom l → Good Γ t J h l (enter P p h l a vs (some r))
         unfolding enter methodEnv
         enter-good a c m fs vs r e q cs s j = rw (eq-eqb (length vs) (length (r .params)) (all-length h vs (r .params) cs)) (keep whole)
@@ -348,7 +352,15 @@ module _ (P : Program) where
         cons-good (Out.next n q h' l' e') es f K g s d =
             kept-map
             (λ k.
-            record { mid = K; type = u; types = us; split = split; head = k; rest = monos P low es us ⊑-refl ⊆-refl (g .keeps) ⊆-refl s })
+            record {
+              mid = K;
+              type = u;
+              types = us;
+              split = split;
+              head = k;
+              rest = monos P low es us ⊑-refl ⊆-refl
+                  (g .keeps) ⊆-refl s;
+            })
             g
         cons-good (Out.stuck n q) es f K g s d = g
 

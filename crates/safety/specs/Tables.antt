@@ -107,11 +107,14 @@ module _ (P : Program) where
         class-ind P low (λ c. c < d → Lacks (hasFields P c) d) (λ l. rw (hasFields-zero P) (own-lacks (P .fields) 0 d l))
         (λ c ih l.
         rw (hasFields-suc P low c)
-        (lacks-append (hasFields P (super P (suc c))) (own P (P .fields) (suc c)) d (ih (omega (arith, low c))) (own-lacks (P .fields) (suc c) d l)))
+        (lacks-append (hasFields P (super P (suc c))) (own P (P .fields) (suc c)) d (ih (omega (arith, low c)))
+        (own-lacks (P .fields) (suc c) d l)))
 
     found-has : {c d f : ℕ} {u : Ty} → Found (hasFields P c) d f u → Has P c d f u
     unfolding fieldIndex
-    found-has m = record { index = m .k; found = m .at 0 ∙ ap some (let e : 0 + m .k ≡ m .k = omega arith in e); within = m .within; typed = m .typed }
+    found-has m =
+        let e : 0 + m .k ≡ m .k = omega arith in
+        record { index = m .k; found = m .at 0 ∙ ap some e; within = m .within; typed = m .typed }
 
     -- a class has the field that it sees
     sees-found : (f : ℕ) (r : Field) (c : ℕ) → seesField P c f ≡ some r → (r .owner ≤ c) × Found (hasFields P c) (r .owner) f (r .type)
@@ -132,13 +135,17 @@ module _ (P : Program) where
             → orElse o (seesField P (super P (suc c)) f) ≡ some r
             → (r .owner ≤ suc c) × Found (hasFields P (suc c)) (r .owner) f (r .type)
         next c none q ih e =
-            let m = ih e in
-            (omega (arith, m .0, low c), rw (hasFields-suc P low c) (found-left (r .owner) f (r .type) (hasFields P (super P (suc c))) (own P (P .fields) (suc c)) (m .1)))
+            let m = ih e in (
+              omega (arith, m .0, low c),
+              rw (hasFields-suc P low c)
+                  (found-left (r .owner) f (r .type) (hasFields P (super P (suc c))) (own P (P .fields) (suc c)) (m .1)),
+            )
         next c (some x) q ih e =
             let m = own-found (P .fields) (suc c) f r (q ∙ e) in (
               omega (arith, m .0),
               rw (m .0, hasFields-suc P low c)
-                  (found-right (suc c) f (r .type) (hasFields P (super P (suc c))) (own P (P .fields) (suc c)) (has-lacks (suc c) (super P (suc c)) (low c)) (m .1)),
+                  (found-right (suc c) f (r .type) (hasFields P (super P (suc c))) (own P (P .fields) (suc c))
+                  (has-lacks (suc c) (super P (suc c)) (low c)) (m .1)),
             )
 
     pub sees-has : (c f : ℕ) (r : Field) → seesField P c f ≡ some r → Has P c (r .owner) f (r .type)
@@ -197,7 +204,8 @@ module _ (P : Program) where
 
   module _ (low : Lower P) where
     -- a method that is seen is declared by a class above
-    pub declared : (m : ℕ) (r : Method) (c : ℕ) → seesMethod P c m ≡ some r → (d : ℕ) × (subclass P c d ≡ true) × (methodIn P (P .methods) d m ≡ some r)
+    pub declared : (m : ℕ) (r : Method) (c : ℕ) → seesMethod P c m ≡ some r
+        → (d : ℕ) × (subclass P c d ≡ true) × (methodIn P (P .methods) d m ≡ some r)
     declared m r =
         class-ind P low (λ c. seesMethod P c m ≡ some r → (d : ℕ) × (subclass P c d ≡ true) × (methodIn P (P .methods) d m ≡ some r))
         (λ e. first (methodIn P (P .methods) 0 m) refl (rw (seesMethod-zero P m) at e))
@@ -221,7 +229,8 @@ module _ (P : Program) where
 
     -- 11, for every method of the table
     module _ (held : (c m : ℕ) (r : Method) → methodIn P (P .methods) c m ≡ some r → overrideHolds P r ≡ true) where
-      over : (c m : ℕ) (q r : Method) → methodIn P (P .methods) (suc c) m ≡ some q → seesMethod P (super P (suc c)) m ≡ some r → Fits q r
+      over : (c m : ℕ) (q r : Method) → methodIn P (P .methods) (suc c) m ≡ some q → seesMethod P (super P (suc c)) m ≡ some r
+          → Fits q r
       unfolding overrideHolds overrides
       over c m q r e k =
           let s = method-row (P .methods) (suc c) m q e in

@@ -55,12 +55,14 @@ module _ (P : Program) where
               λ c m r e h.
               let k = declared P (A .low) m r c e in
               let b = A .bodies (k .0) m r (k .2) in
-              mono P (A .low) (load (r .body)) ⊑-refl ⊆-refl ≼-refl (record { ok = b .result }) (record { at = λ x t. absurd (never t) })
+              mono P (A .low) (load (r .body)) ⊑-refl ⊆-refl ≼-refl (record { ok = b .result })
+              (record { at = λ x t. absurd (never t) })
               (typed-safe P (A .low) (r .body) (methodEnv r) (between 0 (length (r .params))) h (b .type) (b .checked .after)
               (b .checked .known) (b .checked .typed) (b .checked .sets));
         }
 
-    pub safety : (main : Expr) (Γ : Env) (I : Vars) (t : Ty) → Checked main Γ I t → {h : Heap} {l : Store} → HeapOk P h → StoreOk P h l Γ
+    pub safety : (main : Expr) (Γ : Env) (I : Vars) (t : Ty) → Checked main Γ I t → {h : Heap} {l : Store} → HeapOk P h
+        → StoreOk P h l Γ
         → I ⊆ dom l → (steps depth : ℕ) → RunOk P t (run depth P steps 0 h l (load main))
     safety main Γ I t c {h} {l} hk sk i steps depth =
         run-ok P wf steps depth 0 t (c .after) (load main) hk sk
