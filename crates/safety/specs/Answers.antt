@@ -52,6 +52,12 @@ pub data Told (ws : List ℕ) (t : Ty) (end : Answer) (word : Option ℕ) (heap 
   outOfSteps : end .number ≡ 32 → Told ws t end word heap
   tooDeep : end .number ≡ 33 → Told ws t end word heap
 
+pub never-stuck : {ws : List ℕ} {t : Ty} {end : Answer} {word : Option ℕ} {heap : List ℕ} → Told ws t end word heap → end .number ≡ 34 → ⊥
+never-stuck (returned w v n a b c) e = omega arith
+never-stuck (threw w a c n p q r s) e = omega arith
+never-stuck (outOfSteps n) e = omega arith
+never-stuck (tooDeep n) e = omega arith
+
 -- and the heap that it leaves is as 14, 15 and 17 ask
 pub record Answered (ws : List ℕ) (t : Ty) (end : Answer) (word : Option ℕ) (heap : List ℕ) : Type 0 where
   pub told : Told ws t end word heap
@@ -96,6 +102,7 @@ pub one-answer : {ws hs is : List ℕ} {steps depth : ℕ} {end end' : Answer} {
     → (end ≡ end') × (word ≡ word') × (heap ≡ heap')
 one-answer r q = (r .end-is ∙ sym (q .end-is), r .word-is ∙ sym (q .word-is), r .heap-is ∙ sym (q .heap-is))
 
+-- Demand 3: an accepting check and an accepting conform, whatever runs answer.
 pub answers-safe : (ws hs is : List ℕ) (check conform : Answer) → check ≡ answerOf (checkRules ws)
     → conform ≡ answerOf (conformRules ws hs is)
     → check ≡ accepted → conform ≡ accepted
