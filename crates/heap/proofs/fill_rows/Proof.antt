@@ -27,7 +27,7 @@ slice-write-counts c = search needs
 
 -- src/lib.rt:72:5
 loop-holds : tie.Need-loop-holds Inv-loop μ-loop
-loop-holds c = let p = c .before .before .before .pre in let g = p .0 in (omega arith, upto-start _ _ g _ _ (p .2) (p .3))
+loop-holds c = let p = c .before .before .before .pre in let g = p .0 in (omega arith, upto-start _ _ g (c .before .before .before .args .counts .now) _ (p .2) (p .3))
 
 -- src/lib.rt:73:9
 fill-row-requires : tie.Need-fill-row-requires Inv-loop μ-loop
