@@ -1,4 +1,7 @@
--- The table of every class's fields.
+-- The table of every class's fields; free slots.
 pub mod Rows
+pub mod Slots
 -- Laws, which a reader need not believe: the checker does.
 pub mod RowLaws
+pub mod SlotLaws
+pub mod WordLaws
