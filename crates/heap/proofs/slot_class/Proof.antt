@@ -35,7 +35,7 @@ returns c = search needs
 
 -- src/lib.rt:95:1
 returns-2 : tie.Need-returns-2
-returns-2 c = beyond _ _ (c .if1 .left)
+returns-2 c = beyond (c .before .args .heap .now) _ (c .if1 .left)
 
 pub slot-class-spec : {M : Type 1} → statement M
 slot-class-spec = tie.close (tie.spec mul-at mul-result shared-slice-read-result returns returns-2)
