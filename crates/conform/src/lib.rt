@@ -1,7 +1,8 @@
 // The conformity check: layout, fields, heap and inputs, numbers 0 to 10 and 14 to 18.
 ghost use mathlib.Core.Path.{_≡_};
-ghost use mathlib.Core.Bool.{true};
-ghost use Prim.Native.Nat.{_≤_, _<_};
+ghost use mathlib.Core.Bool.{true, cond};
+ghost use Prim.Native.Nat.{suc, _≤_, _<_};
+ghost use lib.Dec.{eqb, ltb};
 ghost use lib.ListN.{length, getD};
 ghost use Rattle.order.specs.Rules.{firstPlace, answerOf};
 ghost use Rattle.order.specs.declared.Found.the-variants.{Nowhere};
@@ -14,7 +15,7 @@ ghost use Rattle.rules.specs.Trees.{written};
 ghost use Rattle.rules.specs.Program.{program};
 ghost use Rattle.rules.specs.Heap.{heapOf};
 ghost use Rattle.rules.specs.Conform.{conforms};
-ghost use Rattle.rules.specs.Numbers.{fieldsRule, heapRule, inputTypeRule, conformRules};
+ghost use Rattle.rules.specs.Numbers.{fewestSlots, fieldsRule, heapRule, inputTypeRule, conformRules};
 ghost use Rattle.laws.specs.Heap.{Words};
 ghost use Rattle.heap.specs.Rows.{Rows};
 ghost use Rattle.conform.specs.Answers.{conformedNumbers, dataRules, loadedRules};
@@ -85,6 +86,17 @@ pub fn value_conforms(ws: &[u32], l: Layout, heap: &[u64], w: u64, t: u32) -> bo
     }
 }
 
+// A slot of the system's holds its class and no other.
+fn system_slot_holds(a: usize, first: u64) -> bool
+    ensures { λ r. ⌜ r ≡ cond (ltb a fewestSlots) (eqb first (suc (suc a))) true ⌝ }
+{
+    if a < SYSTEM_SLOTS {
+        first == a as u64 + 2
+    } else {
+        true
+    }
+}
+
 // 17: word i. The system's slots hold their classes, and each field of an object conforms to its type.
 fn heap_value_holds(ws: &[u32], l: Layout, counts: &[usize], types: &[u32], heap: &[u64], i: usize) -> bool
     requires { ⌜ Good (now ws) l × Rows (now ws) (now counts) (now types) × Words (program (now ws)) (classCount (now ws)) (now heap) × (i < length (now heap)) ⌝ }
@@ -94,14 +106,15 @@ fn heap_value_holds(ws: &[u32], l: Layout, counts: &[usize], types: &[u32], heap
     let k = i % SLOT_WORDS;
     let first = heap[SLOT_WORDS * a];
     if k == 0 {
-        return (SYSTEM_SLOTS <= a) | (first == a as u64 + 2);
+        return system_slot_holds(a, first);
     }
     if first == 0 {
         return true;
     }
     let c = (first - 1) as usize;
     if k - 1 < counts[c] {
-        value_conforms(ws, l, heap, heap[i], types[ROW_WORDS * c + (k - 1)])
+        let t = types[ROW_WORDS * c + (k - 1)];
+        value_conforms(ws, l, heap, heap[i], t)
     } else {
         true
     }
