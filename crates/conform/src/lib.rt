@@ -21,9 +21,11 @@ ghost use Rattle.heap.specs.Rows.{Rows};
 ghost use Rattle.conform.specs.Answers.{conformedNumbers, dataRules, loadedRules};
 use heap::ROW_WORDS;
 use heap::SLOT_WORDS;
+use heap::TABLE_WORDS;
 use image::Breach;
 use image::Laid;
 use image::Layout;
+use image::MOST_CLASSES;
 use order::Answer;
 use order::Found;
 use words::Decoded;
@@ -182,8 +184,8 @@ fn loaded_answer(ws: &[u32], l: Layout, heap: &[u64], inputs: &[u64]) -> Conform
     if let Found::At(p) = classes::fields_place(ws, l) {
         return Conformed::Fields(p);
     }
-    let mut counts: [usize; 256] = [0; 256];
-    let mut types: [u32; 3840] = [0; 3840];
+    let mut counts: [usize; MOST_CLASSES] = [0; MOST_CLASSES];
+    let mut types: [u32; TABLE_WORDS] = [0; TABLE_WORDS];
     heap::fill_rows(ws, l, &mut counts, &mut types);
     data_answer(ws, l, &counts, &types, heap, inputs)
 }
@@ -196,4 +198,48 @@ pub fn check_conformity(image: &[u32], heap: &[u64], inputs: &[u64]) -> Conforme
         Laid::Broken(b) => Conformed::Layout(b),
         Laid::Sound(l) => loaded_answer(image, l, heap, inputs),
     }
+}
+
+// The number and place of an answer.
+pub fn conformed_answer(a: Conformed) -> Answer
+    ensures { λ r. ⌜ r ≡ conformedNumbers a ⌝ }
+{
+    match a {
+        Conformed::Accepted => Answer {
+            number: 0,
+            place: 0,
+        },
+        Conformed::Layout(b) => image::breach_answer(b),
+        Conformed::Fields(p) => Answer {
+            number: 10,
+            place: p as u64,
+        },
+        Conformed::HeapLength => Answer {
+            number: 14,
+            place: 0,
+        },
+        Conformed::HeapWord(p) => Answer {
+            number: 15,
+            place: p as u64,
+        },
+        Conformed::Input(p) => Answer {
+            number: 16,
+            place: p as u64,
+        },
+        Conformed::HeapValue(p) => Answer {
+            number: 17,
+            place: p as u64,
+        },
+        Conformed::InputValue(p) => Answer {
+            number: 18,
+            place: p as u64,
+        },
+    }
+}
+
+// The number and place that a caller gets; 0 at 0 where all conforms.
+pub fn conformity(image: &[u32], heap: &[u64], inputs: &[u64]) -> Answer
+    ensures { λ r. ⌜ r ≡ answerOf (conformRules (now (image .entry)) (now (heap .entry)) (now (inputs .entry))) ⌝ }
+{
+    conformed_answer(check_conformity(image, heap, inputs))
 }

@@ -33,6 +33,9 @@ const TAG: u64 = 4294967296;
 // Words of a class's row in the table of types: as many as a class may have fields.
 pub const ROW_WORDS: usize = 15;
 
+// Words of the table of types: a row for each of the 256 classes that an image may have.
+pub const TABLE_WORDS: usize = 3840;
+
 // Class c's row begins as class s's does, with n types.
 fn copy_row(types: &mut [u32], s: usize, c: usize, n: usize)
     requires { ⌜ (s < c) × (c < mostClasses) × (n ≤ mostFieldsAbove) × (length (now types) ≡ rowWords * mostClasses) ⌝ }
