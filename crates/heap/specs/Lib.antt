@@ -5,3 +5,4 @@ pub mod Slots
 pub mod RowLaws
 pub mod SlotLaws
 pub mod WordLaws
+pub mod IndexLaws

@@ -175,7 +175,7 @@ rises-le c n d m h = go (ltb c d) refl (eqb c d) refl h
 
 module _ (ws : List ℕ) (l : Layout) (g : Good ws l) where
   -- fields are sorted by class
-  class-rises : (j d : ℕ) → j + d < fieldCount ws → fieldWord ws j 0 ≤ fieldWord ws (j + d) 0
+  pub class-rises : (j d : ℕ) → j + d < fieldCount ws → fieldWord ws j 0 ≤ fieldWord ws (j + d) 0
   class-rises j zero h = let e : j + 0 ≡ j = omega arith in rw e (omega arith)
   class-rises j (suc d) h =
       let e : j + suc d ≡ suc (j + d) = omega arith in

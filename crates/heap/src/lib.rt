@@ -6,15 +6,22 @@ ghost use lib.Dec.{ltb};
 ghost use lib.ListN.{length, getD};
 ghost use Rattle.order.specs.Rules.{scan, firstPlace};
 ghost use Rattle.order.specs.declared.Found.the-variants.{Nowhere};
-ghost use Rattle.image.specs.Numbers.{mostClasses};
+ghost use Rattle.image.specs.Numbers.{highestName, mostClasses};
+ghost use Rattle.image.specs.Records.{fieldWord};
 ghost use Rattle.image.specs.Trailer.{classCount};
 ghost use Rattle.image.specs.Layout.{Lay, Good};
 ghost use Rattle.words.specs.Types.{typeOf};
 ghost use Rattle.words.specs.Value.{valueOf, wordOf, isIs, addresses};
+ghost use Rattle.rules.specs.Maps.{tabulate};
+ghost use Rattle.rules.specs.Program.{fieldAt, program};
+ghost use Rattle.rules.specs.Classes.{own, hasFields, fieldIndex};
 ghost use Rattle.rules.specs.Heap.{default, slotWords};
+ghost use Rattle.laws.specs.Heap.{place};
 ghost use Rattle.rules.specs.Numbers.{mostFieldsAbove, fieldsRule, slotFirst, heapLengthHolds, heapWordRule, inputRule};
 ghost use Rattle.heap.specs.Rows.{rowWords, Sizes, Rows, Upto, Copied, NoneBelow, OwnFields};
 ghost use Rattle.heap.specs.Slots.{takenAt};
+use classes::Members;
+use classes::Seen;
 use image::Layout;
 use order::Found;
 use words::Decoded;
@@ -142,6 +149,38 @@ pub fn default_word(t: u32) -> u64
         2 => 3 * TAG,
         _ => TAG,
     }
+}
+
+// How many of the records before record i are of its class, d. They stand just before it.
+fn own_rank(ws: &[u32], l: Layout, d: usize, i: usize) -> usize
+    requires { ⌜ Good (now ws) l × (i < l .«field_count») × (fieldWord (now ws) i 0 ≡ d) ⌝ }
+    ensures { λ r. ⌜ r ≡ length (own (program (now (ws .entry))) (tabulate i (fieldAt (now (ws .entry)))) d) ⌝ }
+{
+    let mut k = i;
+    while 0 < k {
+        if image::field_word(ws, l, k - 1, 0) as usize != d {
+            return i - k;
+        }
+        k -= 1;
+    }
+    i
+}
+
+// The index of the field of a name that class d declares, among the fields of an object of d or of a class below it. The
+// fields above d come first.
+pub fn field_index(ws: &[u32], l: Layout, counts: &[usize], d: usize, name: usize) -> Found
+    requires { ⌜ Good (now ws) l × Sizes (now ws) (now counts) × (d < l .«class_count») × (name ≤ highestName) ⌝ }
+    ensures { λ r. ⌜ place r ≡ fieldIndex (hasFields (program (now (ws .entry))) d) d name ⌝ }
+{
+    let Seen::At(owner, i) = classes::look_up(ws, l, Members::Fields, d, name) else {
+        return Found::Nowhere;
+    };
+    if owner != d {
+        return Found::Nowhere;
+    }
+    let s = image::class_word(ws, l, d) as usize;
+    let rank = own_rank(ws, l, d, i);
+    Found::At(counts[s] + rank)
 }
 
 // 14: whole slots, not too few and not too many.
