@@ -100,7 +100,14 @@ fn system_slot_holds(a: usize, first: u64) -> bool
 }
 
 // 17: word i. The system's slots hold their classes, and each field of an object conforms to its type.
-fn heap_value_holds(ws: &[u32], l: Layout, counts: &[usize], types: &[u32], heap: &[u64], i: usize) -> bool
+fn heap_value_holds(
+    ws: &[u32],
+    l: Layout,
+    counts: &[usize],
+    types: &[u32],
+    heap: &[u64],
+    i: usize,
+) -> bool
     requires { ⌜ Good (now ws) l × Rows (now ws) (now counts) (now types) × Words (program (now ws)) (classCount (now ws)) (now heap) × (i < length (now heap)) ⌝ }
     ensures { λ r. ⌜ r ≡ heapRule (now (ws .entry)) (now (heap .entry)) .holds i ⌝ }
 {
@@ -154,7 +161,14 @@ pub fn input_type_place(ws: &[u32], l: Layout, heap: &[u64], inputs: &[u64]) -> 
 }
 
 // 14 to 18, in this order.
-fn data_answer(ws: &[u32], l: Layout, counts: &[usize], types: &[u32], heap: &[u64], inputs: &[u64]) -> Conformed
+fn data_answer(
+    ws: &[u32],
+    l: Layout,
+    counts: &[usize],
+    types: &[u32],
+    heap: &[u64],
+    inputs: &[u64],
+) -> Conformed
     requires { ⌜ Good (now ws) l × (firstPlace (fieldsRule (now ws)) ≡ Nowhere) × Rows (now ws) (now counts) (now types) ⌝ }
     ensures { λ r. ⌜ conformedNumbers r ≡ answerOf (dataRules (now (ws .entry)) (now (heap .entry)) (now (inputs .entry))) ⌝ }
 {

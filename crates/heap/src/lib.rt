@@ -71,7 +71,14 @@ fn own_end(ws: &[u32], l: Layout, c: usize, i: usize) -> usize
 }
 
 // Class c's row: its superclass's, and then the fields that it declares. Those begin at record i; the answer is where they end.
-fn fill_row(ws: &[u32], l: Layout, counts: &mut [usize], types: &mut [u32], c: usize, i: usize) -> usize
+fn fill_row(
+    ws: &[u32],
+    l: Layout,
+    counts: &mut [usize],
+    types: &mut [u32],
+    c: usize,
+    i: usize,
+) -> usize
     requires { ⌜ Good (now ws) l × Upto (now ws) (now counts) (now types) c i × (0 < c) × (c < classCount (now ws)) × (firstPlace (fieldsRule (now ws)) ≡ Nowhere) ⌝ }
     ensures { λ r. ⌜ Upto (now (ws .entry)) (now (counts .exit)) (now (types .exit)) (c + 1) r ⌝ }
 {
@@ -109,11 +116,7 @@ pub fn slot_class(heap: &[u64], a: usize) -> u64
     ensures { λ r. ⌜ r ≡ getD (now (heap .entry)) (slotWords * a) 0 ⌝ }
 {
     let at = SLOT_WORDS * a;
-    if at < heap.len() {
-        heap[at]
-    } else {
-        0
-    }
+    if at < heap.len() { heap[at] } else { 0 }
 }
 
 // The word of field i of the object in slot a.

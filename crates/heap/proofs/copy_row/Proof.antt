@@ -1,18 +1,12 @@
-use borrow.Author.Needs.{needs}
-use Rattle.heap.specs.RowLaws.{few, copied-start, copied-on, owned-on, own-ends, own-at-end, part-start, part-room, part-on, part-end, upto-start, upto-end}
-use Rattle.heap.specs.Rows.{rowWords, Copied, Owned, OwnFields, Part, Upto}
-use Rattle.classes.specs.Types.{super-below}
-use Rattle.image.specs.Records.{superclass, fieldWord}
-use Rattle.image.specs.Trailer.{classCount, fieldCount}
-use Rattle.image.specs.Numbers.{mostClasses}
-use lib.ListN.{length, set, length-set}
-use native.Mathlib.Omega.{arith}
-use Prim.Native.Nat.{_+_, _*_, _-_, _≤_, _<_}
-use mathlib.Core.Path.{_≡_, refl, sym, _∙_}
+-- `heap::copy_row` meets its contract.
+use Prim.Native.Nat.{_-_, _≤_}
 use Rattle.heap.proofs.copy_row.Statement.{statement}
+use Rattle.heap.specs.RowLaws.{copied-on, copied-start}
+use Rattle.heap.specs.Rows.{Copied}
+use borrow.Author.Needs.{needs}
+use mathlib.Core.Path.{_≡_}
+use native.Mathlib.Omega.{arith}
 use Rattle.heap.proofs.copy_row.Tie as tie
-use Rattle.heap.proofs.copy_row.Reads as reads
-use Rattle.heap.proofs.copy_row.Lts as lts
 
 abbrev Inv-loop : tie.InvT-loop
 Inv-loop types₀ s c n k₀ types k = (k ≤ n) × Copied types₀ types s c k
@@ -20,59 +14,45 @@ Inv-loop types₀ s c n k₀ types k = (k ≤ n) × Copied types₀ types s c k
 abbrev μ-loop : tie.MeasureT-loop
 μ-loop types₀ s c n k₀ types k = n - k
 
--- src/lib.rt:24:5
 loop-holds : tie.Need-loop-holds Inv-loop μ-loop
 loop-holds c = (omega arith, copied-start _ _ _)
 
--- src/lib.rt:25:42
 mul-types : tie.Need-mul-types Inv-loop μ-loop
 mul-types c = search needs
 
--- src/lib.rt:25:42
 add-types : tie.Need-add-types Inv-loop μ-loop
 add-types c = search needs
 
--- src/lib.rt:25:36
 mul-types-2 : tie.Need-mul-types-2 Inv-loop μ-loop
 mul-types-2 c = search needs
 
--- src/lib.rt:25:36
 slice-read-types : tie.Need-slice-read-types Inv-loop μ-loop
 slice-read-types c = let w = c .before .before .loop .inv .1 .size in let p = c .before .before .before .pre in omega (arith, p .0, p .1, p .2, p .3)
 
--- src/lib.rt:25:15
 mul-types-3 : tie.Need-mul-types-3 Inv-loop μ-loop
 mul-types-3 c = search needs
 
--- src/lib.rt:25:15
 add-types-2 : tie.Need-add-types-2 Inv-loop μ-loop
 add-types-2 c = search needs
 
--- src/lib.rt:25:9
 mul-types-4 : tie.Need-mul-types-4 Inv-loop μ-loop
 mul-types-4 c = search needs
 
--- src/lib.rt:25:9
 slice-write-types : tie.Need-slice-write-types Inv-loop μ-loop
 slice-write-types c = let w = c .before .before .loop .inv .1 .size in let p = c .before .before .before .pre in omega (arith, p .0, p .1, p .2, p .3)
 
--- src/lib.rt:26:9
 add-k : tie.Need-add-k Inv-loop μ-loop
 add-k c = search needs
 
--- src/lib.rt:24:5
 loop-less : tie.Need-loop-less Inv-loop μ-loop
 loop-less c = search needs
 
--- src/lib.rt:24:5
 loop-again : tie.Need-loop-again Inv-loop μ-loop
 loop-again c = let w = c .before .before .loop .inv .1 .size in let p = c .before .before .before .pre in (omega arith, copied-on (c .before .before .loop .inv .1) (p .0) (omega arith) (omega (arith, p .0, p .1, p .2, p .3)))
 
--- src/lib.rt:19:1
 same-length : tie.Need-same-length Inv-loop μ-loop
 same-length c = c .before .loop .inv .1 .size
 
--- src/lib.rt:19:1
 returns : tie.Need-returns Inv-loop μ-loop
 returns c = let e : c .before .loop .k ≡ c .before .before .args .n = omega arith in rw (← e) (c .before .loop .inv .1)
 

@@ -1,22 +1,13 @@
-use borrow.Author.Needs.{needs}
-use Rattle.heap.specs.RowLaws.{few, copied-start, copied-on, owned-on, own-ends, own-at-end, part-start, part-room, part-on, part-end, upto-start, upto-end}
-use Rattle.heap.specs.Rows.{rowWords, Copied, Owned, OwnFields, Part, Upto}
+-- `heap::fill_row` meets its contract.
+use Prim.Native.Nat.{_-_, _<_, _≤_}
 use Rattle.classes.specs.Types.{super-below}
-use Rattle.image.specs.Records.{superclass, fieldWord}
-use Rattle.image.specs.Trailer.{classCount, fieldCount}
-use Rattle.image.specs.Numbers.{mostClasses}
-use lib.ListN.{length, set, length-set}
-use native.Mathlib.Omega.{arith}
-use Prim.Native.Nat.{_+_, _*_, _-_, _≤_, _<_}
-use mathlib.Core.Path.{_≡_, refl, sym, _∙_}
 use Rattle.heap.proofs.fill_row.Statement.{statement}
+use Rattle.heap.specs.RowLaws.{few, part-end, part-on, part-room, part-start}
+use Rattle.heap.specs.Rows.{Part}
+use borrow.Author.Needs.{needs}
+use mathlib.Core.Path.{_≡_, refl}
+use native.Mathlib.Omega.{arith}
 use Rattle.heap.proofs.fill_row.Tie as tie
-use Rattle.heap.proofs.fill_row.Reads as reads
-use Rattle.heap.proofs.fill_row.Lts as lts
-use Rattle.heap.proofs.copy_row.Reads as copy-row-reads
-use Rattle.heap.proofs.own_end.Reads as own-end-reads
-use Rattle.image.proofs.class_word.Reads as class-word-reads
-use Rattle.image.proofs.field_word.Reads as field-word-reads
 
 abbrev Inv-loop : tie.InvT-loop
 Inv-loop ws l counts types₀ c i s m₀ end j₀ types m j = (i ≤ j) × Part ws types c j m × (j ≤ end)
@@ -24,87 +15,66 @@ Inv-loop ws l counts types₀ c i s m₀ end j₀ types m j = (i ≤ j) × Part 
 abbrev μ-loop : tie.MeasureT-loop
 μ-loop ws l counts types₀ c i s m₀ end j₀ types m j = end - j
 
--- src/lib.rt:50:13
 class-word-requires : tie.Need-class-word-requires Inv-loop μ-loop
 class-word-requires c κs = let p = c .before .before .before .pre in let g = p .0 in let u = p .1 in (g .lay, omega (arith, p .3, g .lay .class-count))
 
--- src/lib.rt:50:13
 cast-s : tie.Need-cast-s Inv-loop μ-loop
 cast-s c = search needs
 
--- src/lib.rt:51:17
 mul-m : tie.Need-mul-m Inv-loop μ-loop
 mul-m c = search needs
 
--- src/lib.rt:51:17
 slice-read-m : tie.Need-slice-read-m Inv-loop μ-loop
 slice-read-m c = let p = c .before .before .before .before .before .pre in let g = p .0 in let u = p .1 in let b = super-below _ _ g _ (p .3) (p .2) in let e = c .before .class-word .ensures in omega (arith, u .count-size, g .small .classes, g .lay .class-count, p .3)
 
--- src/lib.rt:52:5
 copy-row-requires : tie.Need-copy-row-requires Inv-loop μ-loop
 copy-row-requires c κs = let p = c .before .before .before .before .before .before .pre in let g = p .0 in let u = p .1 in let b = super-below _ _ g _ (p .3) (p .2) in let e = c .before .before .class-word .ensures in let k : c .before .before .class-word .result < c .before .before .before .before .before .before .args .c = omega arith in (k, omega (arith, g .small .classes, g .lay .class-count, p .3), rw (u .count _ k) (few _ _ g (p .4) _ (omega (arith, p .3))), u .type-size)
 
--- src/lib.rt:53:9
 own-end-requires : tie.Need-own-end-requires Inv-loop μ-loop
 own-end-requires c κs = let p = c .before .before .before .before .before .before .before .before .before .pre in let g = p .0 in let u = p .1 in (g, omega (arith, u .within, g .lay .field-count), u .after)
 
--- src/lib.rt:55:5
 loop-holds : tie.Need-loop-holds Inv-loop μ-loop
 loop-holds c = let p = c .before .before .before .before .before .before .before .before .before .before .pre in let g = p .0 in let u = p .1 in (omega arith, part-start _ _ g (p .4) u (p .2) (p .3) (c .before .before .before .before .before .before .class-word .ensures) refl (c .before .before .before .copy-row .ensures), c .own-end .ensures .low)
 
--- src/lib.rt:56:36
 field-word-requires : tie.Need-field-word-requires Inv-loop μ-loop
 field-word-requires c κs = let p = c .before .before .before .before .before .before .before .before .before .before .before .before .pre in let g = p .0 in let u = p .1 in let o = c .before .before .own-end .ensures .high in (g .lay, omega (arith, g .lay .field-count), omega arith)
 
--- src/lib.rt:56:15
 mul-types : tie.Need-mul-types Inv-loop μ-loop
 mul-types c = let p = c .before .before .before .before .before .before .before .before .before .before .before .before .before .pre in let g = p .0 in let u = p .1 in omega (arith, g .small .classes, g .lay .class-count, p .3)
 
--- src/lib.rt:56:15
 add-types : tie.Need-add-types Inv-loop μ-loop
 add-types c = let p = c .before .before .before .before .before .before .before .before .before .before .before .before .before .pre in let g = p .0 in let u = p .1 in let o = c .before .before .before .own-end .ensures in let w = c .before .before .loop .inv .1 in let j = c .before .before .loop .j in let own = o .owned j (omega arith) (omega arith) in let r = part-room _ _ g (p .4) w (p .2) (p .3) (omega arith) own in omega (arith, g .small .classes, g .lay .class-count, p .3)
 
--- src/lib.rt:56:9
 mul-types-2 : tie.Need-mul-types-2 Inv-loop μ-loop
 mul-types-2 c = let p = c .before .before .before .before .before .before .before .before .before .before .before .before .before .pre in let g = p .0 in let u = p .1 in let o = c .before .before .before .own-end .ensures in let w = c .before .before .loop .inv .1 in let j = c .before .before .loop .j in let own = o .owned j (omega arith) (omega arith) in let r = part-room _ _ g (p .4) w (p .2) (p .3) (omega arith) own in omega (arith, g .small .classes, g .lay .class-count, p .3)
 
--- src/lib.rt:56:9
 slice-write-types : tie.Need-slice-write-types Inv-loop μ-loop
 slice-write-types c = let p = c .before .before .before .before .before .before .before .before .before .before .before .before .before .pre in let g = p .0 in let u = p .1 in let o = c .before .before .before .own-end .ensures in let w = c .before .before .loop .inv .1 in let j = c .before .before .loop .j in let own = o .owned j (omega arith) (omega arith) in let r = part-room _ _ g (p .4) w (p .2) (p .3) (omega arith) own in omega (arith, g .small .classes, g .lay .class-count, p .3, w .size)
 
--- src/lib.rt:57:9
 add-m : tie.Need-add-m Inv-loop μ-loop
 add-m c = let p = c .before .before .before .before .before .before .before .before .before .before .before .before .before .pre in let g = p .0 in let u = p .1 in let o = c .before .before .before .own-end .ensures in let w = c .before .before .loop .inv .1 in let j = c .before .before .loop .j in let own = o .owned j (omega arith) (omega arith) in let r = part-room _ _ g (p .4) w (p .2) (p .3) (omega arith) own in omega arith
 
--- src/lib.rt:58:9
 add-j : tie.Need-add-j Inv-loop μ-loop
 add-j c = search needs
 
--- src/lib.rt:55:5
 loop-less : tie.Need-loop-less Inv-loop μ-loop
 loop-less c = search needs
 
--- src/lib.rt:55:5
 loop-again : tie.Need-loop-again Inv-loop μ-loop
 loop-again c = let p = c .before .before .before .before .before .before .before .before .before .before .before .before .before .pre in let g = p .0 in let u = p .1 in let o = c .before .before .before .own-end .ensures in let w = c .before .before .loop .inv .1 in let j = c .before .before .loop .j in let own = o .owned j (omega arith) (omega arith) in let r = part-room _ _ g (p .4) w (p .2) (p .3) (omega arith) own in (omega arith, part-on _ _ g (p .4) w (p .2) (p .3) (omega arith) own _ (c .field-word .ensures), omega arith)
 
--- src/lib.rt:60:5
 mul-counts : tie.Need-mul-counts Inv-loop μ-loop
 mul-counts c = let p = c .before .before .before .before .before .before .before .before .before .before .before .before .pre in let g = p .0 in let u = p .1 in omega (arith, g .small .classes, g .lay .class-count, p .3)
 
--- src/lib.rt:60:5
 slice-write-counts : tie.Need-slice-write-counts Inv-loop μ-loop
 slice-write-counts c = let p = c .before .before .before .before .before .before .before .before .before .before .before .before .pre in let g = p .0 in let u = p .1 in omega (arith, g .small .classes, g .lay .class-count, p .3, u .count-size)
 
--- src/lib.rt:46:1
 same-length : tie.Need-same-length Inv-loop μ-loop
 same-length c = search needs
 
--- src/lib.rt:46:1
 same-length-2 : tie.Need-same-length-2 Inv-loop μ-loop
 same-length-2 c = search needs
 
--- src/lib.rt:46:1
 returns : tie.Need-returns Inv-loop μ-loop
 returns c = let p = c .before .before .before .before .before .before .before .before .before .before .before .before .pre in let g = p .0 in let u = p .1 in let e : c .before .loop .j ≡ c .before .before .own-end .result = omega arith in part-end _ _ g (p .4) u (p .2) (p .3) (c .before .before .own-end .ensures) (rw e at (c .before .loop .inv .1))
 
