@@ -1,0 +1,272 @@
+// The heap: a table of every class's fields, readings of slots, and the rules 14, 15 and 16.
+ghost use Prim.Native.Nat.{_+_, _*_, _-_, _/_, _%_, _≤_, _<_};
+ghost use mathlib.Core.Path.{_≡_};
+ghost use mathlib.Core.Bool.{true, cond};
+ghost use lib.Dec.{ltb};
+ghost use lib.ListN.{length, getD};
+ghost use Rattle.order.specs.Rules.{scan, firstPlace};
+ghost use Rattle.order.specs.declared.Found.the-variants.{Nowhere};
+ghost use Rattle.image.specs.Numbers.{highestName, mostClasses};
+ghost use Rattle.image.specs.Records.{fieldWord};
+ghost use Rattle.image.specs.Trailer.{classCount};
+ghost use Rattle.image.specs.Layout.{Lay, Good};
+ghost use Rattle.words.specs.Types.{typeOf};
+ghost use Rattle.words.specs.Value.{valueOf, wordOf, isIs, addresses};
+ghost use Rattle.rules.specs.Maps.{tabulate};
+ghost use Rattle.rules.specs.Program.{fieldAt, program};
+ghost use Rattle.rules.specs.Classes.{own, hasFields, fieldIndex};
+ghost use Rattle.rules.specs.Heap.{default, slotWords};
+ghost use Rattle.laws.specs.Heap.{place};
+ghost use Rattle.rules.specs.Numbers.{mostFieldsAbove, fieldsRule, slotFirst, heapLengthHolds, heapWordRule, inputRule};
+ghost use Rattle.heap.specs.Rows.{rowWords, Sizes, Rows, Upto, Copied, NoneBelow, OwnFields};
+ghost use Rattle.heap.specs.Slots.{takenAt};
+use classes::Members;
+use classes::Seen;
+use image::Layout;
+use order::Found;
+use words::Decoded;
+
+// Words of a slot: its class, and as many fields as a class may have.
+pub const SLOT_WORDS: usize = 16;
+
+// The bounds of a heap, in slots.
+const FEWEST_SLOTS: usize = 3;
+
+const MOST_SLOTS: usize = 4096;
+
+// A value's tag stands above the 32 bits of its payload.
+const TAG: u64 = 4294967296;
+
+// Words of a class's row in the table of types: as many as a class may have fields.
+pub const ROW_WORDS: usize = 15;
+
+// Words of the table of types: a row for each of the 256 classes that an image may have.
+pub const TABLE_WORDS: usize = 3840;
+
+// Class c's row begins as class s's does, with n types.
+fn copy_row(types: &mut [u32], s: usize, c: usize, n: usize)
+    requires { ⌜ (s < c) × (c < mostClasses) × (n ≤ mostFieldsAbove) × (length (now types) ≡ rowWords * mostClasses) ⌝ }
+    ensures { λ _. ⌜ Copied (now (types .entry)) (now (types .exit)) s c n ⌝ }
+{
+    let mut k = 0;
+    while k < n {
+        types[ROW_WORDS * c + k] = types[ROW_WORDS * s + k];
+        k += 1;
+    }
+}
+
+// Where the records of class c end that begin at i. Fields are sorted by class.
+fn own_end(ws: &[u32], l: Layout, c: usize, i: usize) -> usize
+    requires { ⌜ Good (now ws) l × (i ≤ l .«field_count») × NoneBelow (now ws) c i ⌝ }
+    ensures { λ r. ⌜ OwnFields (now (ws .entry)) c i r ⌝ }
+{
+    let mut j = i;
+    while j < l.field_count {
+        if image::field_word(ws, l, j, 0) as usize != c {
+            return j;
+        }
+        j += 1;
+    }
+    j
+}
+
+// Class c's row: its superclass's, and then the fields that it declares. Those begin at record i; the answer is where they end.
+fn fill_row(
+    ws: &[u32],
+    l: Layout,
+    counts: &mut [usize],
+    types: &mut [u32],
+    c: usize,
+    i: usize,
+) -> usize
+    requires { ⌜ Good (now ws) l × Upto (now ws) (now counts) (now types) c i × (0 < c) × (c < classCount (now ws)) × (firstPlace (fieldsRule (now ws)) ≡ Nowhere) ⌝ }
+    ensures { λ r. ⌜ Upto (now (ws .entry)) (now (counts .exit)) (now (types .exit)) (c + 1) r ⌝ }
+{
+    let s = image::class_word(ws, l, c) as usize;
+    let mut m = counts[s];
+    copy_row(types, s, c, m);
+    let end = own_end(ws, l, c, i);
+    let mut j = i;
+    while j < end {
+        types[ROW_WORDS * c + m] = image::field_word(ws, l, j, 2);
+        m += 1;
+        j += 1;
+    }
+    counts[c] = m;
+    end
+}
+
+// The table of every class's fields, in heap order: how many each class has, and their types.
+pub fn fill_rows(ws: &[u32], l: Layout, counts: &mut [usize], types: &mut [u32])
+    requires { ⌜ Good (now ws) l × (firstPlace (fieldsRule (now ws)) ≡ Nowhere) × (length (now counts) ≡ mostClasses) × (length (now types) ≡ rowWords * mostClasses) ⌝ }
+    ensures { λ _. ⌜ Rows (now (ws .entry)) (now (counts .exit)) (now (types .exit)) ⌝ }
+{
+    counts[0] = 0;
+    let mut c = 1;
+    let mut i = 0;
+    while c < l.class_count {
+        i = fill_row(ws, l, counts, types, c, i);
+        c += 1;
+    }
+}
+
+// The first word of slot a: its class and 1 more, or 0 where it is free. Beyond the heap nothing stands.
+pub fn slot_class(heap: &[u64], a: usize) -> u64
+    requires { ⌜ a < addresses ⌝ }
+    ensures { λ r. ⌜ r ≡ getD (now (heap .entry)) (slotWords * a) 0 ⌝ }
+{
+    let at = SLOT_WORDS * a;
+    if at < heap.len() { heap[at] } else { 0 }
+}
+
+// The word of field i of the object in slot a.
+pub fn slot_field(heap: &[u64], a: usize, i: usize) -> u64
+    requires { ⌜ slotWords * a + 1 + i < length (now heap) ⌝ }
+    ensures { λ r. ⌜ r ≡ getD (now (heap .entry)) (slotWords * a + 1 + i) 0 ⌝ }
+{
+    heap[SLOT_WORDS * a + 1 + i]
+}
+
+// The lowest free slot that is not below `from`.
+pub fn lowest_free(heap: &[u64], from: usize) -> Found
+    ensures { λ r. ⌜ r ≡ scan (takenAt (now (heap .entry))) (length (now (heap .entry)) / slotWords - from) from ⌝ }
+{
+    let slots = heap.len() / SLOT_WORDS;
+    let mut a = from;
+    while a < slots {
+        if heap[SLOT_WORDS * a] == 0 {
+            return Found::At(a);
+        }
+        a += 1;
+    }
+    Found::Nowhere
+}
+
+// The word of a type's default value.
+pub fn default_word(t: u32) -> u64
+    ensures { λ r. ⌜ r ≡ wordOf (default (typeOf t)) ⌝ }
+{
+    match t {
+        0 => 0,
+        1 => 2 * TAG,
+        2 => 3 * TAG,
+        _ => TAG,
+    }
+}
+
+// How many of the records before record i are of its class, d. They stand just before it.
+fn own_rank(ws: &[u32], l: Layout, d: usize, i: usize) -> usize
+    requires { ⌜ Good (now ws) l × (i < l .«field_count») × (fieldWord (now ws) i 0 ≡ d) ⌝ }
+    ensures { λ r. ⌜ r ≡ length (own (program (now (ws .entry))) (tabulate i (fieldAt (now (ws .entry)))) d) ⌝ }
+{
+    let mut k = i;
+    while 0 < k {
+        if image::field_word(ws, l, k - 1, 0) as usize != d {
+            return i - k;
+        }
+        k -= 1;
+    }
+    i
+}
+
+// The index of the field of a name that class d declares, among the fields of an object of d or of a class below it. The
+// fields above d come first.
+pub fn field_index(ws: &[u32], l: Layout, counts: &[usize], d: usize, name: usize) -> Found
+    requires { ⌜ Good (now ws) l × Sizes (now ws) (now counts) × (d < l .«class_count») × (name ≤ highestName) ⌝ }
+    ensures { λ r. ⌜ place r ≡ fieldIndex (hasFields (program (now (ws .entry))) d) d name ⌝ }
+{
+    let Seen::At(owner, i) = classes::look_up(ws, l, Members::Fields, d, name) else {
+        return Found::Nowhere;
+    };
+    if owner != d {
+        return Found::Nowhere;
+    }
+    let s = image::class_word(ws, l, d) as usize;
+    let rank = own_rank(ws, l, d, i);
+    Found::At(counts[s] + rank)
+}
+
+// 14: whole slots, not too few and not too many.
+pub fn heap_length_holds(n: usize) -> bool
+    ensures { λ r. ⌜ r ≡ heapLengthHolds n ⌝ }
+{
+    (n % SLOT_WORDS == 0) & (FEWEST_SLOTS <= n / SLOT_WORDS) & (n / SLOT_WORDS <= MOST_SLOTS)
+}
+
+// Whether a word stands for a value.
+pub fn is_value_word(w: u64) -> bool
+    ensures { λ r. ⌜ r ≡ isIs (valueOf w) ⌝ }
+{
+    match words::value_of(w) {
+        Decoded::Is(_) => true,
+        Decoded::Not => false,
+    }
+}
+
+// 15: word i. The slot's class must be known where the word is not the one that names it.
+fn heap_word_holds(ws: &[u32], l: Layout, counts: &[usize], heap: &[u64], i: usize) -> bool
+    requires { ⌜ Good (now ws) l × Sizes (now ws) (now counts) × (i < length (now heap)) × ((i % slotWords ≡ 0 → ⊥) → slotFirst (now heap) i ≤ classCount (now ws)) ⌝ }
+    ensures { λ r. ⌜ r ≡ heapWordRule (now (ws .entry)) (now (heap .entry)) .holds i ⌝ }
+{
+    let first = heap[SLOT_WORDS * (i / SLOT_WORDS)];
+    let k = i % SLOT_WORDS;
+    if k == 0 {
+        return first <= l.class_count as u64;
+    }
+    let word = heap[i];
+    if first == 0 {
+        return word == 0;
+    }
+    let c = (first - 1) as usize;
+    if k - 1 < counts[c] {
+        is_value_word(word)
+    } else {
+        word == 0
+    }
+}
+
+// 15: the first heap word of no known class, no value, or not 0 where it should be.
+pub fn heap_word_place(ws: &[u32], l: Layout, counts: &[usize], heap: &[u64]) -> Found
+    requires { ⌜ Good (now ws) l × Sizes (now ws) (now counts) ⌝ }
+    ensures { λ r. ⌜ r ≡ firstPlace (heapWordRule (now (ws .entry)) (now (heap .entry))) ⌝ }
+{
+    let mut i = 0;
+    while i < heap.len() {
+        if !heap_word_holds(ws, l, counts, heap, i) {
+            return Found::At(i);
+        }
+        i += 1;
+    }
+    Found::Nowhere
+}
+
+// Input i is a value, if there is one.
+fn input_is_value(inputs: &[u64], i: usize) -> bool
+    ensures { λ r. ⌜ r ≡ cond (ltb i (length (now (inputs .entry)))) (isIs (valueOf (getD (now (inputs .entry)) i 0))) true ⌝ }
+{
+    if i < inputs.len() {
+        is_value_word(inputs[i])
+    } else {
+        true
+    }
+}
+
+// 16: the first input that is no value, or main's count where there are more or fewer. No input from there on is asked: that
+// place is lower.
+pub fn input_place(ws: &[u32], l: Layout, inputs: &[u64]) -> Found
+    requires { ⌜ Good (now ws) l ⌝ }
+    ensures { λ r. ⌜ r ≡ firstPlace (inputRule (now (ws .entry)) (now (inputs .entry))) ⌝ }
+{
+    let mut i = 0;
+    while i < l.inputs {
+        if !input_is_value(inputs, i) {
+            return Found::At(i);
+        }
+        i += 1;
+    }
+    if inputs.len() == l.inputs {
+        Found::Nowhere
+    } else {
+        Found::At(i)
+    }
+}
