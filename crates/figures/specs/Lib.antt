@@ -5,3 +5,4 @@ pub mod Figure2
 pub mod Agreement
 pub mod FirstBreach
 pub mod Laid
+pub mod Bodies

@@ -14,7 +14,7 @@ use Rattle.rules.specs.Maps.{upd}
 use Rattle.rules.specs.Trees.{Expr, Exprs, new, cast, val, var, add, eq, assign, get, put, call, block, seq, ite, while, throw, try, nil, cons}
 use Rattle.rules.specs.Program.{Program}
 use Rattle.rules.specs.Heap.{Heap, look, lowestFree}
-use Rattle.rules.specs.Step.{Store, Out, Outs, thrown-at, readRedex, addRedex, eqRedex, newRedex, castRedex, getRedex, putRedex, View, isSeq, isAssign, isVal, other, view, valueIn, assigned, remember, settle, blocked, redex, under, unders, both, ifOut, throwOut, blockOut, consOut, tailOut, callOut, catchSlot, tryOut, step, steps}
+use Rattle.rules.specs.Step.{Store, Out, Outs, thrown-at, readRedex, addRedex, eqRedex, newRedex, castRedex, getRedex, putRedex, View, isSeq, isAssign, isVal, other, view, valueIn, assigned, remember, settle, blocked, redex, under, unders, both, ifOut, throwOut, blockOut, consOut, tailOut, callOut, catchSlot, tryOut, step, steps, bare}
 use Rattle.laws.specs.Maps.{upd-same, upd-twice, upd-restore}
 
 -- One constructor for each place that an active operand can stand in.
@@ -397,7 +397,7 @@ module _ (P : Program) (p : ℕ) (h : Heap) (s : Store) where
   unfolding step
   step-val v = refl
 
-  pub step-while : (c e : Expr) → step P (while p c e) h s ≡ Out.next 0 p h s (ite p c (seq p e (while p c e)) (val p Value.Unit))
+  pub step-while : (c e : Expr) → step P (while p c e) h s ≡ Out.next 0 p h s (ite p c (seq p e (while p c e)) (bare Value.Unit))
   unfolding step
   step-while c e = refl
 
@@ -413,7 +413,7 @@ module _ (P : Program) (p : ℕ) (h : Heap) (s : Store) where
   unfolding step under both
   step-eq q r v w = refl
 
-  pub step-assign : (x q : ℕ) (v : Value) → step P (assign p x (val q v)) h s ≡ Out.next 0 p h (upd s x (some v)) (val p v)
+  pub step-assign : (x q : ℕ) (v : Value) → step P (assign p x (val q v)) h s ≡ Out.next 0 p h (upd s x (some v)) (bare v)
   unfolding step under
   step-assign x q v = refl
 

@@ -213,6 +213,19 @@ module _ (ws : List ℕ) where
           ∙ stretch-zero g (nodeCount ws))
 
     -- every place once and in order
+    -- the places of a body, and of main
+    pub body-places : (i : ℕ) → i < methodCount ws → places (methodAt ws i .body) ≡ stretch (λ j. j) (bodyStart ws i) (bodyStart ws (suc i))
+    unfolding bodyStart
+    body-places i l =
+        let s = body-holds (bodyStart ws i) (methodWord ws i 5) (method-filled i l (filled i (omega arith))) in
+        body-postorder place i l
+        ∙ stretch-same _ (λ j. j) (bodyStart ws i) (suc (methodWord ws i 5)) (λ j k q. root-tree ws j (hold j (omega (arith, s .0))))
+
+    pub main-places : places (main ws) ≡ stretch (λ j. j) (bodyStart ws (methodCount ws)) (nodeCount ws)
+    main-places =
+        main-postorder place
+        ∙ stretch-same _ (λ j. j) (bodyStart ws (methodCount ws)) (nodeCount ws) (λ j k q. root-tree ws j (hold j q))
+
     pub all-places : joined (tabulate (methodCount ws) (λ i. places (methodAt ws i .body))) ++ places (main ws)
         ≡ tabulate (nodeCount ws) (λ j. j)
     all-places =

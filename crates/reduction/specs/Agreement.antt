@@ -17,7 +17,7 @@ use Rattle.rules.specs.Trees.{Expr, Exprs, new, cast, val, var, add, eq, assign
 use Rattle.rules.specs.Program.{Method, Program}
 use Rattle.rules.specs.Classes.{subclass, seesMethod, hasFields, fieldIndex}
 use Rattle.rules.specs.Heap.{Slot, free, obj, Heap, look, lowestFree}
-use Rattle.rules.specs.Step.{Store, classCast, thrown-at, tag, payload, sameValue, Redex, gives, raises, fails, readRedex, addRedex, eqRedex, newRedex, castSlot, castRedex, getField, getSlot, getRedex, putField, putSlot, putRedex, blocked, load, Out, Outs, value, values, to, redex, under, unders, both, ifOut, throwOut, blockOut, consOut, tailOut, blocks, enter, callSlot, callOut, catchSlot, tryOut, step, steps}
+use Rattle.rules.specs.Step.{Store, classCast, thrown-at, tag, payload, sameValue, Redex, gives, raises, fails, readRedex, addRedex, eqRedex, newRedex, castSlot, castRedex, getField, getSlot, getRedex, putField, putSlot, putRedex, blocked, load, Out, Outs, value, values, to, redex, under, unders, both, ifOut, throwOut, blockOut, consOut, tailOut, blocks, enter, callSlot, callOut, catchSlot, tryOut, step, steps, bare}
 use Rattle.reduction.specs.AppendixB.{Final, AValue, AnException, Values, NoValue, OneValue, Throws, Now, Later, Reduces, New, NewNoMemory, CastStep, CastNull, Cast, CastFails, CastThrow, AddFirst, AddSecond, Add, AddFirstThrow, AddSecondThrow, EqFirst, EqSecond, EqTrue, EqFalse, EqFirstThrow, EqSecondThrow, Var, AssignStep, Assign, AssignThrow, GetStep, Get, GetNull, GetThrow, SetFirst, SetSecond, Set, SetNull, SetFirstThrow, SetSecondThrow, CallStep, CallArguments, Call, CallNull, CallThrow, CallArgumentThrow, BlockStep, BlockBegins, BlockRemembers, Block, BlockRemembering, BlockThrow, BlockRememberingThrow, SeqStep, Seq, SeqThrow, IfStep, IfTrue, IfFalse, IfThrow, While, ThrowStep, ThrowNull, ThrowThrow, TryStep, Try, TryCatch, TryFails, ReducesAll, ListFirst, ListRest}
 use Rattle.reduction.specs.ActivePlace.{FirstOf, First, After, Turn, OfCast, OfAdd, OfAddSecond, OfEq, OfEqSecond, OfAssign, OfGet, OfSet, OfSetSecond, OfCall, OfCallArguments, OfBlock, OfSeq, OfIf, OfThrow, OfTry, Active, Here, Below}
 
@@ -320,7 +320,7 @@ module _ (P : Program) where
 
   -- what a redex says
   abbrev Sound : (p : ℕ) → Redex → Expr → Heap → Store → Type 0
-  Sound p (gives h' v) e h l = Reduces P e h l (val p v) h' l
+  Sound p (gives h' v) e h l = Reduces P e h l (bare v) h' l
   Sound p (raises a) e h l = Reduces P e h l (thrown-at p a) h l
   Sound p fails e h l = Unit {0}
 
@@ -515,7 +515,7 @@ module _ (P : Program) where
     unfolding eqRedex
     eq-sound p q r v w = go (sameValue v w) refl
       where
-        go : (b : Bool) → sameValue v w ≡ b → Reduces P (eq p (val q v) (val r w)) h l (val p (Value.Bool b)) h l
+        go : (b : Bool) → sameValue v w ≡ b → Reduces P (eq p (val q v) (val r w)) h l (bare (Value.Bool b)) h l
         go true e = EqTrue (same-sound v w e)
         go false e = EqFalse (λ s. let t = same-true v w s in let z : _≡_ {A = ℕ} 0 1 = cc in absurd (omega arith))
 

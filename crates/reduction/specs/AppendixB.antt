@@ -1,6 +1,6 @@
 -- Appendix B of the report, the reduction rules, with the paper's choices: a rule for each rule there, in its order and by its
 -- constructs. `Reduces e h l e' h' l'`: in one step e becomes e', the heap h becomes h' and the store l becomes l'.
--- A result that a rule computes is a variable with an equation. A new node has the place of the node that makes it.
+-- A result that a rule computes is a variable with an equation. A new node has the place of the node that makes it; values need none.
 use Prim.Native.Nat.{ℕ, _+_, _%_, _^_}
 use mathlib.Core.Path.{_≡_}
 use mathlib.Core.Bool.{Bool, true, false}
@@ -16,7 +16,7 @@ use Rattle.rules.specs.Trees.{Expr, Exprs, new, cast, val, var, add, eq, assign
 use Rattle.rules.specs.Program.{Method, Program}
 use Rattle.rules.specs.Classes.{subclass, seesMethod, hasFields, fieldIndex}
 use Rattle.rules.specs.Heap.{obj, Heap, look, defaults, lowestFree}
-use Rattle.rules.specs.Step.{Store, nullPointer, classCast, outOfMemory, thrown-at, blocked, load, blocks}
+use Rattle.rules.specs.Step.{Store, nullPointer, classCast, outOfMemory, thrown-at, blocked, load, blocks, bare}
 
 -- A final expression: a value, or Throw of an address.
 pub data Final : Expr → Type 0 where
@@ -40,7 +40,7 @@ module _ (P : Program) where
       New : {p c a : ℕ} {h h' : Heap} {l : Store}
           → lowestFree h ≡ some a
           → set h a (obj c (defaults (hasFields P c))) ≡ h'
-          → Reduces (new p c) h l (val p (Addr a)) h' l
+          → Reduces (new p c) h l (bare (Addr a)) h' l
       NewNoMemory : {p c : ℕ} {h : Heap} {l : Store}
           → lowestFree h ≡ none
           → Reduces (new p c) h l (thrown-at p outOfMemory) h l
@@ -48,11 +48,11 @@ module _ (P : Program) where
       CastStep : {p c : ℕ} {e e' : Expr} {h h' : Heap} {l l' : Store}
           → Reduces e h l e' h' l'
           → Reduces (cast p c e) h l (cast p c e') h' l'
-      CastNull : {p c q : ℕ} {h : Heap} {l : Store} → Reduces (cast p c (val q Null)) h l (val p Null) h l
+      CastNull : {p c q : ℕ} {h : Heap} {l : Store} → Reduces (cast p c (val q Null)) h l (bare Null) h l
       Cast : {p c q a d : ℕ} {vs : List Value} {h : Heap} {l : Store}
           → look h a ≡ obj d vs
           → subclass P d c ≡ true
-          → Reduces (cast p c (val q (Addr a))) h l (val p (Addr a)) h l
+          → Reduces (cast p c (val q (Addr a))) h l (bare (Addr a)) h l
       CastFails : {p c q a d : ℕ} {vs : List Value} {h : Heap} {l : Store}
           → look h a ≡ obj d vs
           → subclass P d c ≡ false
@@ -67,7 +67,7 @@ module _ (P : Program) where
           → Reduces (add p (val q v) b) h l (add p (val q v) b') h' l'
       Add : {p q r m n k : ℕ} {h : Heap} {l : Store}
           → (m + n) % 2 ^ 32 ≡ k
-          → Reduces (add p (val q (Intg m)) (val r (Intg n))) h l (val p (Intg k)) h l
+          → Reduces (add p (val q (Intg m)) (val r (Intg n))) h l (bare (Intg k)) h l
       AddFirstThrow : {p q r a : ℕ} {t : Ty} {b : Expr} {h : Heap} {l : Store}
           → Reduces (add p (throw q t (val r (Addr a))) b) h l (thrown-at p a) h l
       AddSecondThrow : {p s q r a : ℕ} {v : Value} {t : Ty} {h : Heap} {l : Store}
@@ -81,23 +81,23 @@ module _ (P : Program) where
           → Reduces (eq p (val q v) b) h l (eq p (val q v) b') h' l'
       EqTrue : {p q r : ℕ} {v w : Value} {h : Heap} {l : Store}
           → v ≡ w
-          → Reduces (eq p (val q v) (val r w)) h l (val p (Value.Bool true)) h l
+          → Reduces (eq p (val q v) (val r w)) h l (bare (Value.Bool true)) h l
       EqFalse : {p q r : ℕ} {v w : Value} {h : Heap} {l : Store}
           → ¬ (v ≡ w)
-          → Reduces (eq p (val q v) (val r w)) h l (val p (Value.Bool false)) h l
+          → Reduces (eq p (val q v) (val r w)) h l (bare (Value.Bool false)) h l
       EqFirstThrow : {p q r a : ℕ} {t : Ty} {b : Expr} {h : Heap} {l : Store}
           → Reduces (eq p (throw q t (val r (Addr a))) b) h l (thrown-at p a) h l
       EqSecondThrow : {p s q r a : ℕ} {v : Value} {t : Ty} {h : Heap} {l : Store}
           → Reduces (eq p (val s v) (throw q t (val r (Addr a)))) h l (thrown-at p a) h l
       -- Variable access.
-      Var : {p x : ℕ} {v : Value} {h : Heap} {l : Store} → l x ≡ some v → Reduces (var p x) h l (val p v) h l
+      Var : {p x : ℕ} {v : Value} {h : Heap} {l : Store} → l x ≡ some v → Reduces (var p x) h l (bare v) h l
       -- Variable assignment.
       AssignStep : {p x : ℕ} {e e' : Expr} {h h' : Heap} {l l' : Store}
           → Reduces e h l e' h' l'
           → Reduces (assign p x e) h l (assign p x e') h' l'
       Assign : {p x q : ℕ} {v : Value} {h : Heap} {l l' : Store}
           → upd l x (some v) ≡ l'
-          → Reduces (assign p x (val q v)) h l (val p v) h l'
+          → Reduces (assign p x (val q v)) h l (bare v) h l'
       AssignThrow : {p x q r a : ℕ} {t : Ty} {h : Heap} {l : Store}
           → Reduces (assign p x (throw q t (val r (Addr a)))) h l (thrown-at p a) h l
       -- Field access. The paper: an object having that field of that class; the address of NullPointer is 0.
@@ -108,7 +108,7 @@ module _ (P : Program) where
           → look h a ≡ obj c vs
           → fieldIndex (hasFields P c) d f ≡ some i
           → getD vs i Value.Unit ≡ v
-          → Reduces (get p f d (val q (Addr a))) h l (val p v) h l
+          → Reduces (get p f d (val q (Addr a))) h l (bare v) h l
       GetNull : {p f d q : ℕ} {h : Heap} {l : Store} → Reduces (get p f d (val q Null)) h l (thrown-at p nullPointer) h l
       GetThrow : {p f d q r a : ℕ} {t : Ty} {h : Heap} {l : Store}
           → Reduces (get p f d (throw q t (val r (Addr a)))) h l (thrown-at p a) h l
@@ -123,7 +123,7 @@ module _ (P : Program) where
           → look h a ≡ obj c vs
           → fieldIndex (hasFields P c) d f ≡ some j
           → set h a (obj c (set vs j v)) ≡ h'
-          → Reduces (put p f d (val q (Addr a)) (val r v)) h l (val p v) h' l
+          → Reduces (put p f d (val q (Addr a)) (val r v)) h l (bare v) h' l
       SetNull : {p f d q r : ℕ} {v : Value} {h : Heap} {l : Store} → Reduces (put p f d (val q Null) (val r v)) h l (thrown-at p nullPointer) h l
       SetFirstThrow : {p f d q r a : ℕ} {t : Ty} {b : Expr} {h : Heap} {l : Store}
           → Reduces (put p f d (throw q t (val r (Addr a))) b) h l (thrown-at p a) h l
@@ -200,7 +200,7 @@ module _ (P : Program) where
           → Reduces (ite p (throw q t (val r (Addr n))) a b) h l (thrown-at p n) h l
       -- While loop. The paper: the If and the Seq have the While's place.
       While : {p : ℕ} {c e : Expr} {h : Heap} {l : Store}
-          → Reduces (while p c e) h l (ite p c (seq p e (while p c e)) (val p Value.Unit)) h l
+          → Reduces (while p c e) h l (ite p c (seq p e (while p c e)) (bare Value.Unit)) h l
       -- Throw.
       ThrowStep : {p : ℕ} {t : Ty} {e e' : Expr} {h h' : Heap} {l l' : Store}
           → Reduces e h l e' h' l'

@@ -31,9 +31,13 @@ classCast = 1
 abbrev pub outOfMemory : ℕ
 outOfMemory = 2
 
+-- A value is never the active place, so a running expression's values need no place of their own.
+abbrev pub bare : Value → Expr
+bare v = val 0 v
+
 -- Throw of an address, at place p
 abbrev pub thrown-at : (p a : ℕ) → Expr
-thrown-at p a = throw p Void (val p (Addr a))
+thrown-at p a = throw p Void (bare (Addr a))
 
 -- Values are the same when tag and payload are.
 unfoldable pub tag : Value → ℕ
@@ -179,12 +183,13 @@ unfoldable pub blocked : (p x : ℕ) → Ty → Option Value → Expr → Expr
 blocked p x t none e = settle p x t e (view e)
 blocked p x t (some v) e = block p x t (some v) e
 
--- A written tree made ready to run: each block that is written so remembers.
+-- A written tree made ready to run: each block that is written so remembers, values lose their places, and a Throw its type,
+-- which is for typing alone.
 unfoldable mutual
   pub load : Expr → Expr
   load (new p c) = new p c
   load (cast p c e) = cast p c (load e)
-  load (val p v) = val p v
+  load (val p v) = bare v
   load (var p x) = var p x
   load (add p a b) = add p (load a) (load b)
   load (eq p a b) = eq p (load a) (load b)
@@ -196,7 +201,7 @@ unfoldable mutual
   load (seq p a b) = seq p (load a) (load b)
   load (ite p c a b) = ite p (load c) (load a) (load b)
   load (while p c e) = while p (load c) (load e)
-  load (throw p t e) = throw p t (load e)
+  load (throw p t e) = throw p Void (load e)
   load (try p c x a b) = try p c x (load a) (load b)
 
   pub loads : Exprs → Exprs
@@ -223,7 +228,7 @@ module _ (p : ℕ) (h : Heap) (l : Store) where
   to e = next 0 p h l e
 
   unfoldable pub redex : Redex → Out
-  redex (gives h' v) = next 0 p h' l (val p v)
+  redex (gives h' v) = next 0 p h' l (bare v)
   redex (raises a) = to (thrown-at p a)
   redex fails = stuck 0 p
 
@@ -326,7 +331,7 @@ module _ (P : Program) where
     step (add p a b) h l = both p h l a b (step a h l) (step b h l) (add p) (addRedex h)
     step (eq p a b) h l = both p h l a b (step a h l) (step b h l) (eq p) (eqRedex h)
     step (assign p x e) h l =
-        under p h l (step e h l) (assign p x) (λ q v. next 0 p h (upd l x (some v)) (val p v))
+        under p h l (step e h l) (assign p x) (λ q v. next 0 p h (upd l x (some v)) (bare v))
     step (get p f d e) h l = under p h l (step e h l) (get p f d) (λ q v. redex p h l (getRedex P h f d v))
     step (put p f d a b) h l = both p h l a b (step a h l) (step b h l) (put p f d) (putRedex P h f d)
     step (call p m e es) h l =
@@ -335,7 +340,7 @@ module _ (P : Program) where
     step (block p x t mv e) h l = blockOut p x t h l (step e h (upd l x mv))
     step (seq p a b) h l = under p h l (step a h l) (λ a'. seq p a' b) (λ q v. to p h l b)
     step (ite p c a b) h l = under p h l (step c h l) (λ c'. ite p c' a b) (λ q v. ifOut p h l v a b)
-    step (while p c e) h l = to p h l (ite p c (seq p e (while p c e)) (val p Value.Unit))
+    step (while p c e) h l = to p h l (ite p c (seq p e (while p c e)) (bare Value.Unit))
     step (throw p t e) h l = under p h l (step e h l) (throw p t) (λ q v. throwOut p h l v)
     step (try p c x a b) h l = tryOut P p h l c x b (step a h l)
 

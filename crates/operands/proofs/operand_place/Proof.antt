@@ -1,7 +1,8 @@
 -- `operands::operand_place` meets its contract.
 use Prim.Native.Nat.{_-_, _<_, _≤_}
 use Rattle.operands.proofs.operand_place.Statement.{statement}
-use Rattle.operands.specs.Laws.{operand-below, operand-fits}
+use Rattle.laws.specs.Trees.{operand-below}
+use Rattle.operands.specs.Laws.{operand-fits}
 use Rattle.rules.specs.Trees.{operand}
 use borrow.Author.Needs.{needs}
 use mathlib.Core.Path.{_≡_, refl}

@@ -1,0 +1,10 @@
+-- `setting::Vars::all` meets its contract.
+use Rattle.setting.proofs.Vars.all.Statement.{statement}
+use Rattle.setting.specs.Vars.{marks-all}
+use Rattle.setting.proofs.Vars.all.Tie as tie
+
+returns : tie.Need-returns
+returns c = marks-all
+
+pub all-spec : {M : Type 1} → statement M
+all-spec = tie.close (tie.spec returns)

@@ -1,0 +1,16 @@
+-- `setting::Vars::has` meets its contract.
+use Rattle.setting.proofs.Vars.has.Statement.{statement}
+use Rattle.setting.specs.Vars.{marks}
+use borrow.Author.Needs.{needs}
+use mathlib.Core.Path.{refl}
+use Rattle.setting.proofs.Vars.has.Tie as tie
+
+element-copy-out-result : tie.Need-element-copy-out-result
+element-copy-out-result c = search needs
+
+returns : tie.Need-returns
+unfolding marks
+returns c = refl
+
+pub has-spec : {M : Type 1} → statement M
+has-spec = tie.close (tie.spec element-copy-out-result returns)
