@@ -1,0 +1,2 @@
+-- What the typing of one node asks of its operands' types.
+pub mod Node

@@ -1,0 +1,1 @@
+// Number 12: typing.
