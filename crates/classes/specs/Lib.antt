@@ -1,0 +1,8 @@
+-- The member that a class sees, and the keys by which the tables of members are sorted.
+pub mod Sees
+pub mod Keys
+-- Laws, which a reader need not believe: the checker does.
+pub mod Records
+pub mod Types
+pub mod Search
+pub mod Tables
