@@ -2,7 +2,7 @@
 // A type is its word: 0 Void, 1 Boolean, 2 Integer, 3 the null type, and 4 + c class c.
 // An environment is 64 words: 0 for a variable without a type, and else its type word and 1.
 ghost use mathlib.Core.Path.{_≡_};
-ghost use mathlib.Core.Bool.{_&&_};
+ghost use mathlib.Core.Bool.{true, _&&_};
 ghost use mathlib.Core.List.{[], _∷_};
 ghost use Prim.Native.Nat.{ℕ, suc, _+_, _≤_, _<_};
 ghost use lib.ListN.{length, getD};
@@ -11,6 +11,7 @@ ghost use Rattle.words.specs.Types.{typeOf};
 ghost use Rattle.image.specs.declared.Kind.the-variants.{Cast, Var, Eq, Assign, Get, Set, Call};
 ghost use Rattle.image.specs.Numbers.{variables, mostArguments, highestName, writtenTags};
 ghost use Rattle.image.specs.Trailer.{classCount};
+ghost use Rattle.image.specs.Nodes.{namesHold, operands};
 ghost use Rattle.image.specs.Layout.{Good};
 ghost use Rattle.rules.specs.Maps.{tabulate};
 ghost use Rattle.rules.specs.Program.{program, typesFrom};
@@ -207,5 +208,31 @@ fn call_rule(ws: &[u32], l: Layout, n: usize, x: u32, y: u32, types: [u32; 9]) -
             decide(below, n, image::method_word(ws, l, i, 2))
         },
         Seen::Nothing => Typed::Not(n),
+    }
+}
+
+// The type of node n from its operands' types: its own premises.
+fn node_rule(ws: &[u32], l: Layout, env: &[u32], k: Kind, n: usize, x: u32, y: u32, types: [u32; 9]) -> Typed
+    requires { ⌜ Good (now ws) l × EnvOk (now ws) (now env) × (namesHold (classCount (now ws)) k x y ≡ true) × AllKnown (now ws) types ⌝ }
+    ensures { λ r. ⌜ Answers (now (ws .entry)) r (nodeRule (program (now (ws .entry))) (envOf (now (env .entry))) k n x y (typesOf (operands k y) types)) ⌝ }
+{
+    match k {
+        Kind::New => Typed::Is(FIRST_CLASS + x),
+        Kind::Cast => cast_rule(ws, l, n, x, types[0]),
+        Kind::Value => Typed::Is(literal_rule(x)),
+        Kind::Var => var_rule(ws, env, n, x),
+        Kind::Add => add_rule(n, types[0], types[1]),
+        Kind::Eq => eq_rule(ws, l, n, types[0], types[1]),
+        Kind::Assign => assign_rule(ws, l, env, n, x, types[0]),
+        Kind::Get => get_rule(ws, l, n, x, y, types[0]),
+        Kind::Set => set_rule(ws, l, n, x, y, types[0], types[1]),
+        Kind::Call => call_rule(ws, l, n, x, y, types),
+        Kind::Block => Typed::Is(types[0]),
+        Kind::Seq => Typed::Is(types[1]),
+        Kind::If => if_rule(n, types[0], types[1], types[2]),
+        Kind::While => while_rule(n, types[0]),
+        Kind::Throw => throw_rule(n, types[0], x),
+        Kind::Try => try_rule(n, types[0], types[1]),
+        Kind::Unknown => Typed::Not(n),
     }
 }
