@@ -13,8 +13,11 @@ use Rattle.image.specs.Numbers.{variables}
 use Rattle.image.specs.Trailer.{classCount}
 use Rattle.image.specs.Nodes.{nodeWord, kindOf}
 use Rattle.rules.specs.Maps.{tabulate}
-use Rattle.rules.specs.Program.{Env}
-use Rattle.rules.specs.Typing.{Res, ok, bad}
+use Rattle.rules.specs.Program.{Env, program}
+use Rattle.rules.specs.Typing.{Res, ok, bad, _>>=_, typing}
+use Rattle.rules.specs.Trees.{tree, operand}
+use Rattle.laws.specs.Trees.{operandCount}
+use Rattle.typing.specs.Node.{nodeRule, operandTypes}
 use Rattle.typing.specs.declared.Typed.{Typed}
 use Rattle.typing.specs.declared.Typed.the-variants.{Is, Not}
 use Rattle.typing.specs.declared.Types.{Types}
@@ -77,6 +80,7 @@ pub record Lists (ws : List ℕ) (k : ℕ) (r : Types) (s : Res (List Ty)) : Typ
   pub says : resTys k r ≡ s
   pub known : AllKnown ws (r .types)
 
+-- WHAT A NODE BINDS
 -- The variable that a node binds for its last operand; where it binds none, a number that no variable has.
 unfoldable pub boundVar : Kind → (x y : ℕ) → ℕ
 boundVar New x y = variables
@@ -128,3 +132,16 @@ operandWord ws n = boundWord (kindOf (nodeWord ws n 0)) (nodeWord ws n 2) (nodeW
 -- the environment of operand j
 unfoldable pub operandEnv : List ℕ → (n j : ℕ) → List ℕ → List ℕ
 operandEnv ws n j env = set env (operandVar ws n j) (operandWord ws n)
+
+-- WHAT THE FUNCTIONS FIND
+-- the typing of operand j, of all operands, and what a node makes of them
+unfoldable pub operandTyping : List ℕ → (n j : ℕ) → List ℕ → Res Ty
+operandTyping ws n j env = typing (program ws) (tree ws (operand ws n j)) (envOf (operandEnv ws n j env))
+
+unfoldable pub operandsTyping : List ℕ → (n : ℕ) → List ℕ → Res (List Ty)
+operandsTyping ws n env =
+    operandTypes (program ws) (envOf env) (envOf (operandEnv ws n 0 env)) (λ j. tree ws (operand ws n j)) (operandCount ws n)
+
+unfoldable pub ruleOf : List ℕ → (n : ℕ) → List ℕ → Res (List Ty) → Res Ty
+ruleOf ws n env r =
+    r >>= nodeRule (program ws) (envOf env) (kindOf (nodeWord ws n 0)) n (nodeWord ws n 2) (nodeWord ws n 3)

@@ -8,7 +8,7 @@ use native.Mathlib.Omega.{arith}
 use lib.Dec.{ltb, leb, eqb}
 use lib.ListN.{length, getD, set, length-set}
 use lib.Seq.{set-out, set-set, set-getD, getD-set-same, getD-set-other}
-use borrow.Author.Tests.{eqb-true, eqb-false, ltb-true, ltb-false, lt-ltb}
+use borrow.Author.Tests.{eqb-true, eqb-false, ltb-true, ltb-false, lt-ltb, leb-true}
 use Rattle.words.specs.declared.Ty.{Ty}
 use Rattle.words.specs.declared.Ty.the-variants.{Class}
 use Rattle.words.specs.Types.{typeOf, typeWord, isType, isDeclared}
@@ -16,10 +16,11 @@ use Rattle.words.specs.TypeLaws.{type-of-word, is-type, is-declared}
 use Rattle.image.specs.declared.Kind.{Kind}
 use Rattle.image.specs.declared.Kind.the-variants.{New, Cast, Value as Literal, Var, Add, Eq, Assign, Get, Set, Call, Block, Seq, If, While, Throw, Try, Unknown}
 use Rattle.image.specs.declared.Layout.{Layout}
-use Rattle.image.specs.Numbers.{variables}
+use Rattle.image.specs.Numbers.{variables, mostArguments, mostClasses}
 use Rattle.image.specs.Trailer.{classCount, nodeCount}
 use Rattle.image.specs.Laws.{and-left, and-right}
-use Rattle.image.specs.Nodes.{nodeWord, kindOf, namesHold, nodeHolds, isLocal, isClass}
+use Rattle.image.specs.Records.{isName}
+use Rattle.image.specs.Nodes.{nodeWord, kindOf, namesHold, nodeHolds, isLocal, isClass, operands}
 use Rattle.image.specs.Layout.{Good}
 use Rattle.rules.specs.Maps.{upd}
 use Rattle.rules.specs.Program.{Env}
@@ -149,3 +150,45 @@ module _ (ws : List ℕ) (n : ℕ) (h : nodeHolds ws n ≡ true) (env : List ℕ
   pub operand-ok : (j : ℕ) → EnvOk ws (operandEnv ws n j env)
   unfolding operandEnv
   operand-ok j = ok-set ws env (operandVar ws n j) (operandWord ws n) e operand-known
+
+-- a node has at most nine operands
+few : (classes : ℕ) (k : Kind) (x y : ℕ) → namesHold classes k x y ≡ true → operands k y ≤ 9
+unfolding operands namesHold
+few classes New x y h = omega arith
+few classes Cast x y h = omega arith
+few classes Literal x y h = omega arith
+few classes Var x y h = omega arith
+few classes Add x y h = omega arith
+few classes Eq x y h = omega arith
+few classes Assign x y h = omega arith
+few classes Get x y h = omega arith
+few classes Set x y h = omega arith
+few classes Call x y h = let l = leb-true y mostArguments (and-right (isName x) (leb y mostArguments) h) in omega arith
+few classes Block x y h = omega arith
+few classes Seq x y h = omega arith
+few classes If x y h = omega arith
+few classes While x y h = omega arith
+few classes Throw x y h = omega arith
+few classes Try x y h = omega arith
+few classes Unknown x y h = omega arith
+
+-- what the functions read of a node
+module _ (ws : List ℕ) (l : Layout) (g : Good ws l) (n : ℕ) (h : n < l .«node_count») where
+  pub node-holds : nodeHolds ws n ≡ true
+  node-holds = g .nodes n (rw (← g .lay .node-count) h)
+
+  pub node-names : namesHold (classCount ws) (kindOf (nodeWord ws n 0)) (nodeWord ws n 2) (nodeWord ws n 3) ≡ true
+  node-names = names-hold ws n node-holds
+
+  pub word-small : boundWord (kindOf (nodeWord ws n 0)) (nodeWord ws n 2) (nodeWord ws n 3) ≤ 4 + mostClasses
+  word-small =
+      let k = bound-known (classCount ws) (kindOf (nodeWord ws n 0)) (nodeWord ws n 2) (nodeWord ws n 3) node-names in
+      omega (arith, k, g .small .classes, g .lay .class-count)
+
+  pub few-operands : operands (kindOf (nodeWord ws n 0)) (nodeWord ws n 3) ≤ 9
+  few-operands = few (classCount ws) (kindOf (nodeWord ws n 0)) (nodeWord ws n 2) (nodeWord ws n 3) node-names
+
+pub operand-var-other : (ws : List ℕ) (n j : ℕ) → (j ≡ 0 → ⊥) → operandVar ws n j ≡ variables
+unfolding operandVar
+operand-var-other ws n zero h = absurd (h refl)
+operand-var-other ws n (suc j) h = refl

@@ -4,3 +4,4 @@ pub mod Node
 -- Laws, which a reader need not believe: the checker does.
 pub mod EnvLaws
 pub mod RuleLaws
+pub mod ListLaws

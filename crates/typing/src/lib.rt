@@ -5,18 +5,19 @@ ghost use mathlib.Core.Path.{_≡_};
 ghost use mathlib.Core.Bool.{true, _&&_};
 ghost use mathlib.Core.List.{[], _∷_};
 ghost use Prim.Native.Nat.{ℕ, suc, _+_, _≤_, _<_};
-ghost use lib.ListN.{length, getD};
+ghost use lib.ListN.{length, getD, set};
 ghost use lib.Dec.{eqb, leb};
 ghost use Rattle.words.specs.Types.{typeOf};
 ghost use Rattle.image.specs.declared.Kind.the-variants.{Cast, Var, Eq, Assign, Get, Set, Call};
-ghost use Rattle.image.specs.Numbers.{variables, mostArguments, highestName, writtenTags};
+ghost use Rattle.image.specs.Numbers.{variables, mostArguments, mostClasses, highestName, writtenTags};
 ghost use Rattle.image.specs.Trailer.{classCount};
 ghost use Rattle.image.specs.Nodes.{namesHold, operands};
+ghost use Rattle.laws.specs.Trees.{operandCount};
 ghost use Rattle.image.specs.Layout.{Good};
 ghost use Rattle.rules.specs.Maps.{tabulate};
 ghost use Rattle.rules.specs.Program.{program, typesFrom};
 ghost use Rattle.rules.specs.Classes.{subtypes};
-ghost use Rattle.typing.specs.Env.{typeWords, envOf, EnvOk, Answers, AllKnown, decided, literalWord, nowhere, typesOf};
+ghost use Rattle.typing.specs.Env.{typeWords, envOf, EnvOk, Answers, AllKnown, Lists, resTys, decided, literalWord, nowhere, typesOf, boundVar, boundWord, operandVar, operandWord, operandTyping, operandsTyping, ruleOf};
 ghost use Rattle.typing.specs.Node.{nodeRule};
 use classes::Members;
 use classes::Seen;
@@ -44,6 +45,12 @@ pub struct Types {
     pub ok: bool,
     pub place: usize,
     pub types: [u32; 9],
+}
+
+// A variable that is bound, as a number, and the word of its type.
+struct Bound {
+    variable: usize,
+    word: u32,
 }
 
 // Type t, if node n's premise holds.
@@ -235,4 +242,96 @@ fn node_rule(ws: &[u32], l: Layout, env: &[u32], k: Kind, n: usize, x: u32, y: u
         Kind::Try => try_rule(n, types[0], types[1]),
         Kind::Unknown => Typed::Not(n),
     }
+}
+
+// What a node binds for its last operand.
+fn bound_by(k: Kind, x: u32, y: u32) -> Bound
+    requires { ⌜ boundWord k x y ≤ 4 + mostClasses ⌝ }
+    ensures { λ r. ⌜ (r .variable ≡ boundVar k x y) × (r .word ≡ boundWord k x y) ⌝ }
+{
+    let nothing = Bound {
+        variable: image::VARIABLES as usize,
+        word: 0,
+    };
+    match k {
+        Kind::New => nothing,
+        Kind::Cast => nothing,
+        Kind::Value => nothing,
+        Kind::Var => nothing,
+        Kind::Add => nothing,
+        Kind::Eq => nothing,
+        Kind::Assign => nothing,
+        Kind::Get => nothing,
+        Kind::Set => nothing,
+        Kind::Call => nothing,
+        Kind::Block => Bound {
+            variable: x as usize,
+            word: y + 1,
+        },
+        Kind::Seq => nothing,
+        Kind::If => nothing,
+        Kind::While => nothing,
+        Kind::Throw => nothing,
+        Kind::Try => Bound {
+            variable: y as usize,
+            word: FIRST_CLASS + 1 + x,
+        },
+        Kind::Unknown => nothing,
+    }
+}
+
+// What node n binds for the operand that has j others behind it: only the last has a variable of its own.
+fn operand_bound(ws: &[u32], l: Layout, n: usize, j: usize) -> Bound
+    requires { ⌜ Good (now ws) l × (n < l .«node_count») ⌝ }
+    ensures { λ r. ⌜ (r .variable ≡ operandVar (now (ws .entry)) n j) × (r .word ≡ operandWord (now (ws .entry)) n) ⌝ }
+{
+    let k = image::kind_of(image::node_word(ws, l, n, 0));
+    let x = image::node_word(ws, l, n, 2);
+    let y = image::node_word(ws, l, n, 3);
+    let b = bound_by(k, x, y);
+    if j == 0 {
+        b
+    } else {
+        Bound {
+            variable: image::VARIABLES as usize,
+            word: b.word,
+        }
+    }
+}
+
+// Sets a variable's word and gives back the one that it had. A number that is no variable changes nothing.
+fn bind(env: &mut [u32], v: usize, w: u32) -> u32
+    ensures { λ r. ⌜ (now (env .exit) ≡ set (now (env .entry)) v w) × (r ≡ getD (now (env .entry)) v 0) ⌝ }
+{
+    if v < env.len() {
+        let old = env[v];
+        env[v] = w;
+        old
+    } else {
+        0
+    }
+}
+
+// How many operands node n has.
+fn operand_total(ws: &[u32], l: Layout, n: usize) -> usize
+    requires { ⌜ Good (now ws) l × (n < l .«node_count») ⌝ }
+    ensures { λ r. ⌜ (r ≡ operandCount (now (ws .entry)) n) × (r ≤ 9) ⌝ }
+{
+    let k = image::kind_of(image::node_word(ws, l, n, 0));
+    nodes::operand_count(k, image::node_word(ws, l, n, 3))
+}
+
+// Node n's type, when its operands have been typed.
+fn finish(ws: &[u32], l: Layout, env: &[u32], n: usize, r: Types) -> Typed
+    requires { ⌜ Good (now ws) l × EnvOk (now ws) (now env) × (n < l .«node_count») × AllKnown (now ws) (r .types) ⌝ }
+    ensures { λ t. ⌜ Answers (now (ws .entry)) t (ruleOf (now (ws .entry)) n (now (env .entry)) (resTys (operandCount (now (ws .entry)) n) r)) ⌝ }
+{
+    if !r.ok {
+        return Typed::Not(r.place);
+    }
+    let k = image::kind_of(image::node_word(ws, l, n, 0));
+    let x = image::node_word(ws, l, n, 2);
+    let y = image::node_word(ws, l, n, 3);
+    let types = r.types;
+    node_rule(ws, l, env, k, n, x, y, types)
 }
