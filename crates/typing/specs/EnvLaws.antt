@@ -59,6 +59,10 @@ env-set env x t h = fun-ext (λ y. go y (eqb x y) refl)
 pub set-back : (env : List ℕ) (x w : ℕ) → set (set env x w) x (getD env x 0) ≡ env
 set-back env x w = set-set env x w (getD env x 0) ∙ set-getD env x 0
 
+-- bound, kept, and given back
+pub given-back : (a b d e : List ℕ) (v w o : ℕ) → e ≡ set d v o → d ≡ b → b ≡ set a v w → o ≡ getD a v 0 → e ≡ a
+given-back a b d e v w o p q r s = rw (p, q, r, s) (set-back a v w)
+
 pub ok-set : (ws env : List ℕ) (x w : ℕ) → EnvOk ws env → w ≤ typeWords ws → EnvOk ws (set env x w)
 ok-set ws env x w e h =
     record { size = length-set env x w ∙ e .size; types = λ y. go y (eqb y x) refl }

@@ -6,7 +6,7 @@ use mathlib.Core.List.{List, [], _∷_, _++_, append-assoc, append-nil}
 use native.Mathlib.Omega.{arith}
 use native.Mathlib.Numerals.{add-one}
 use lib.Dec.{eqb}
-use lib.ListN.{length, getD, set, length-set}
+use lib.ListN.{length, getD, set, replicate, length-set}
 use lib.Seq.{getD-set-same, getD-set-other}
 use borrow.Author.Tests.{eqb-true, eqb-false}
 use Rattle.words.specs.declared.Ty.{Ty}
@@ -38,6 +38,14 @@ known-set ws types i t l h a j = go (eqb j i) refl
     go : (b : Bool) → eqb j i ≡ b → getD (set types i t) j 0 < typeWords ws
     go true e = rw (eqb-true j i e, getD-set-same types i t 0 l) h
     go false e = rw (getD-set-other types i j t 0 (eqb-false j i e)) (a j)
+
+zero-at : (k i : ℕ) → _≡_ {A = ℕ} (getD (replicate k 0) i 0) 0
+zero-at zero i = refl
+zero-at (suc k) zero = refl
+zero-at (suc k) (suc i) = zero-at k i
+
+pub known-zeros : (ws : List ℕ) → AllKnown ws (replicate 9 0)
+known-zeros ws i = omega (arith, zero-at 9 i)
 
 -- types that stand before those that are still to come
 unfoldable pub before : List Ty → Res (List Ty) → Res (List Ty)

@@ -15,6 +15,8 @@ ghost use Rattle.image.specs.Nodes.{namesHold, operands};
 ghost use Rattle.laws.specs.Trees.{operandCount};
 ghost use Rattle.image.specs.Layout.{Good};
 ghost use Rattle.rules.specs.Maps.{tabulate};
+ghost use Rattle.rules.specs.Trees.{tree};
+ghost use Rattle.rules.specs.Typing.{typing as Typing·typing};
 ghost use Rattle.rules.specs.Program.{program, typesFrom};
 ghost use Rattle.rules.specs.Classes.{subtypes};
 ghost use Rattle.typing.specs.Env.{typeWords, envOf, EnvOk, Answers, AllKnown, Lists, resTys, decided, literalWord, nowhere, typesOf, boundVar, boundWord, operandVar, operandWord, operandTyping, operandsTyping, ruleOf};
@@ -334,4 +336,57 @@ fn finish(ws: &[u32], l: Layout, env: &[u32], n: usize, r: Types) -> Typed
     let y = image::node_word(ws, l, n, 3);
     let types = r.types;
     node_rule(ws, l, env, k, n, x, y, types)
+}
+
+// The type of node n. Its operands are typed first: they have lower numbers.
+fn type_node(ws: &[u32], l: Layout, env: &mut [u32], n: usize) -> Typed
+    requires { ⌜ Good (now ws) l × EnvOk (now ws) (now env) × (n < l .«node_count») ⌝ }
+    ensures { λ r. ⌜ Answers (now (ws .entry)) r (Typing·typing (program (now (ws .entry))) (tree (now (ws .entry)) n) (envOf (now (env .entry)))) × (now (env .exit) ≡ now (env .entry)) ⌝ }
+{
+    let types = type_list(ws, l, env, n);
+    finish(ws, l, env, n, types)
+}
+
+// The types of node n's operands, first to last.
+fn type_list(ws: &[u32], l: Layout, env: &mut [u32], n: usize) -> Types
+    requires { ⌜ Good (now ws) l × EnvOk (now ws) (now env) × (n < l .«node_count») ⌝ }
+    ensures { λ r. ⌜ Lists (now (ws .entry)) (operandCount (now (ws .entry)) n) r (operandsTyping (now (ws .entry)) n (now (env .entry))) × (now (env .exit) ≡ now (env .entry)) ⌝ }
+{
+    let count = operand_total(ws, l, n);
+    let mut types = [0u32; 9];
+    let mut i = 0;
+    while i < count {
+        match type_operand(ws, l, env, n, count - 1 - i) {
+            Typed::Is(t) => {
+                types[i] = t;
+            },
+            Typed::Not(p) => {
+                return Types {
+                    ok: false,
+                    place: p,
+                    types,
+                };
+            },
+        }
+        i += 1;
+    }
+    Types {
+        ok: true,
+        place: 0,
+        types,
+    }
+}
+
+// The type of node n's operand that has j others behind it. What the node binds for it is given back.
+fn type_operand(ws: &[u32], l: Layout, env: &mut [u32], n: usize, j: usize) -> Typed
+    requires { ⌜ Good (now ws) l × EnvOk (now ws) (now env) × (n < l .«node_count») × (j < operandCount (now ws) n) ⌝ }
+    ensures { λ r. ⌜ Answers (now (ws .entry)) r (operandTyping (now (ws .entry)) n j (now (env .entry))) × (now (env .exit) ≡ now (env .entry)) ⌝ }
+{
+    let m = operands::operand_place(ws, l, n, j);
+    let b = operand_bound(ws, l, n, j);
+    let v = b.variable;
+    let old = bind(env, v, b.word);
+    let r = type_node(ws, l, env, m);
+    bind(env, v, old);
+    r
 }
