@@ -5,7 +5,10 @@ ghost use Rattle.rules.specs.Numbers.{checkRules};
 ghost use Rattle.image_check.specs.Answers.{checkedNumbers, RulesFrom10};
 ghost use Rattle.image.specs.Layout.{Good};
 use image::Breach;
+use image::Laid;
+use image::Layout;
 use order::Answer;
+use order::Found;
 
 // What the image check answers. A breach of the layout keeps its own case.
 pub enum Checked {
@@ -15,6 +18,36 @@ pub enum Checked {
     Override(usize),
     Untyped(usize),
     Unset(usize),
+}
+
+// Numbers 10 to 13, in this order, of an image whose layout holds.
+fn check_rules(ws: &[u32], l: Layout) -> Checked
+    requires { ⌜ Good (now ws) l ⌝ }
+    ensures { λ r. ⌜ checkedNumbers r ≡ answerOf (RulesFrom10 (now (ws .entry))) ⌝ }
+{
+    if let Found::At(p) = classes::fields_place(ws, l) {
+        return Checked::Fields(p);
+    }
+    if let Found::At(p) = classes::override_place(ws, l) {
+        return Checked::Override(p);
+    }
+    if let Found::At(p) = typing::untyped_place(ws, l) {
+        return Checked::Untyped(p);
+    }
+    if let Found::At(p) = setting::unset_place(ws, l) {
+        return Checked::Unset(p);
+    }
+    Checked::Accepted
+}
+
+// The image check. Any slice of words may be asked.
+pub fn check_image(ws: &[u32]) -> Checked
+    ensures { λ r. ⌜ checkedNumbers r ≡ answerOf (checkRules (now (ws .entry))) ⌝ }
+{
+    match layout::layout_of_image(ws) {
+        Laid::Broken(b) => Checked::Layout(b),
+        Laid::Sound(l) => check_rules(ws, l),
+    }
 }
 
 // The number and place of an answer; 0 at 0 where the image is accepted.
@@ -43,3 +76,9 @@ pub fn checked_answer(c: Checked) -> Answer
     }
 }
 
+// The image check's number and place.
+pub fn check_answer(ws: &[u32]) -> Answer
+    ensures { λ r. ⌜ r ≡ answerOf (checkRules (now (ws .entry))) ⌝ }
+{
+    checked_answer(check_image(ws))
+}
