@@ -102,6 +102,7 @@ pub struct Settled {
     pub vars: Vars,
 }
 
+// No variable was read unset.
 fn passed(vars: Vars) -> Settled
     ensures { λ r. ⌜ resOf r ≡ ok (varsOf vars) ⌝ }
 {
@@ -164,7 +165,7 @@ fn given_back(a: Settled, x: usize, had: bool) -> Settled
     passed(set.put(x, had))
 }
 
-// Two ways to go on.
+// Two ways to go on: only what both set is surely set.
 fn both(a: Settled, b: Settled) -> Settled
     ensures { λ r. ⌜ resOf r ≡ meetBoth (resOf a) (resOf b) ⌝ }
 {
