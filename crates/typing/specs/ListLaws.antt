@@ -39,7 +39,7 @@ known-set ws types i t l h a j = go (eqb j i) refl
     go true e = rw (eqb-true j i e, getD-set-same types i t 0 l) h
     go false e = rw (getD-set-other types i j t 0 (eqb-false j i e)) (a j)
 
-zero-at : (k i : ℕ) → _≡_ {A = ℕ} (getD (replicate k 0) i 0) 0
+pub zero-at : (k i : ℕ) → _≡_ {A = ℕ} (getD (replicate k 0) i 0) 0
 zero-at zero i = refl
 zero-at (suc k) zero = refl
 zero-at (suc k) (suc i) = zero-at k i
