@@ -61,9 +61,11 @@ types-cons : (ws : List ℕ) (i k : ℕ) → typesFrom ws i (suc k) ≡ typeOf (
 unfolding typesFrom tabulate
 types-cons ws i k =
     let e : i + 0 ≡ i = omega arith in
-    rw (e,
+    rw (
+      e,
       tabulate-same k (λ j. typeOf (typeAt ws (i + suc j))) (λ j. typeOf (typeAt ws (suc i + j)))
-      (λ j h. let q : i + suc j ≡ suc i + j = omega arith in ap (λ (m : ℕ). typeOf (typeAt ws m)) q))
+          (λ j h. let q : i + suc j ≡ suc i + j = omega arith in ap (λ (m : ℕ). typeOf (typeAt ws m)) q),
+    )
 
 opened : (i : ℕ) (t : Ty) (ts : List Ty) → upd (from (suc (suc i)) ts) (suc i) (some t) ≡ from (suc i) (t ∷ ts)
 unfolding from
@@ -222,9 +224,9 @@ module _ (ws : List ℕ) (l : Layout) (g : Good ws l) where
             let e = methodAt ws j .body in
             let s = body-holds ws (bodyStart ws j) (methodWord ws j 5) (method-filled ws j w (filled j (omega arith))) in
             let r = length-map (sites e (methodEnv (methodAt ws j)) (some (methodAt ws j .result))) (siteTyped (program ws))
-              ∙ sites-length e (methodEnv (methodAt ws j)) (some (methodAt ws j .result))
-              ∙ ap length (body-places ws hold filled j w)
-              ∙ length-range (bodyStart ws j) (bodyStart ws (suc j)) in
+            ∙ sites-length e (methodEnv (methodAt ws j)) (some (methodAt ws j .result))
+            ∙ ap length (body-places ws hold filled j w)
+            ∙ length-range (bodyStart ws j) (bodyStart ws (suc j)) in
             omega (arith, r, s .1);
       }
 

@@ -120,7 +120,11 @@ fn cast_rule(ws: &[u32], l: Layout, n: usize, x: u32, t: u32) -> Typed
     }
     let c = (t - FIRST_CLASS) as usize;
     let d = x as usize;
-    decide(classes::is_subclass(ws, l, c, d) | classes::is_subclass(ws, l, d, c), n, FIRST_CLASS + x)
+    decide(
+        classes::is_subclass(ws, l, c, d) | classes::is_subclass(ws, l, d, c),
+        n,
+        FIRST_CLASS + x,
+    )
 }
 
 // One of the two types is a subtype of the other.
@@ -128,7 +132,11 @@ fn eq_rule(ws: &[u32], l: Layout, n: usize, a: u32, b: u32) -> Typed
     requires { ⌜ Good (now ws) l × (a < typeWords (now ws)) × (b < typeWords (now ws)) ⌝ }
     ensures { λ r. ⌜ Answers (now (ws .entry)) r (nodeRule (program (now (ws .entry))) nowhere Eq n 0 0 (typeOf a ∷ typeOf b ∷ [])) ⌝ }
 {
-    decide(classes::is_subtype(ws, l, a, b) | classes::is_subtype(ws, l, b, a), n, BOOLEAN)
+    decide(
+        classes::is_subtype(ws, l, a, b) | classes::is_subtype(ws, l, b, a),
+        n,
+        BOOLEAN,
+    )
 }
 
 fn var_rule(ws: &[u32], env: &[u32], n: usize, x: u32) -> Typed
@@ -162,7 +170,13 @@ fn get_rule(ws: &[u32], l: Layout, n: usize, x: u32, y: u32, t: u32) -> Typed
     if t < FIRST_CLASS {
         return Typed::Not(n);
     }
-    match classes::look_up(ws, l, Members::Fields, (t - FIRST_CLASS) as usize, x as usize) {
+    match classes::look_up(
+        ws,
+        l,
+        Members::Fields,
+        (t - FIRST_CLASS) as usize,
+        x as usize,
+    ) {
         Seen::At(d, i) => decide(d == y as usize, n, image::field_word(ws, l, i, 2)),
         Seen::Nothing => Typed::Not(n),
     }
@@ -176,7 +190,13 @@ fn set_rule(ws: &[u32], l: Layout, n: usize, x: u32, y: u32, t: u32, u: u32) -> 
     if t < FIRST_CLASS {
         return Typed::Not(n);
     }
-    match classes::look_up(ws, l, Members::Fields, (t - FIRST_CLASS) as usize, x as usize) {
+    match classes::look_up(
+        ws,
+        l,
+        Members::Fields,
+        (t - FIRST_CLASS) as usize,
+        x as usize,
+    ) {
         Seen::At(d, i) => {
             let below = classes::is_subtype(ws, l, u, image::field_word(ws, l, i, 2));
             decide((d == y as usize) & below, n, u)
@@ -186,7 +206,14 @@ fn set_rule(ws: &[u32], l: Layout, n: usize, x: u32, y: u32, t: u32, u: u32) -> 
 }
 
 // As many arguments as parameters, each type below its parameter's. The receiver's type stands first.
-fn args_below(ws: &[u32], l: Layout, types: [u32; 9], given: usize, first: usize, count: usize) -> bool
+fn args_below(
+    ws: &[u32],
+    l: Layout,
+    types: [u32; 9],
+    given: usize,
+    first: usize,
+    count: usize,
+) -> bool
     requires { ⌜ Good (now ws) l × AllKnown (now ws) types × (given ≤ mostArguments) × (first + count ≤ l .«type_count») ⌝ }
     ensures { λ r. ⌜ r ≡ subtypes (program (now (ws .entry))) (tabulate given (λ i. typeOf (getD types (suc i) 0))) (typesFrom (now (ws .entry)) first count) ⌝ }
 {
@@ -212,7 +239,13 @@ fn call_rule(ws: &[u32], l: Layout, n: usize, x: u32, y: u32, types: [u32; 9]) -
     if t < FIRST_CLASS {
         return Typed::Not(n);
     }
-    match classes::look_up(ws, l, Members::Methods, (t - FIRST_CLASS) as usize, x as usize) {
+    match classes::look_up(
+        ws,
+        l,
+        Members::Methods,
+        (t - FIRST_CLASS) as usize,
+        x as usize,
+    ) {
         Seen::At(_, i) => {
             let first = image::method_word(ws, l, i, 3) as usize;
             let count = image::method_word(ws, l, i, 4) as usize;
@@ -224,7 +257,16 @@ fn call_rule(ws: &[u32], l: Layout, n: usize, x: u32, y: u32, types: [u32; 9]) -
 }
 
 // The type of node n from its operands' types: its own premises.
-fn node_rule(ws: &[u32], l: Layout, env: &[u32], k: Kind, n: usize, x: u32, y: u32, types: [u32; 9]) -> Typed
+fn node_rule(
+    ws: &[u32],
+    l: Layout,
+    env: &[u32],
+    k: Kind,
+    n: usize,
+    x: u32,
+    y: u32,
+    types: [u32; 9],
+) -> Typed
     requires { ⌜ Good (now ws) l × EnvOk (now ws) (now env) × (namesHold (classCount (now ws)) k x y ≡ true) × AllKnown (now ws) types ⌝ }
     ensures { λ r. ⌜ Answers (now (ws .entry)) r (nodeRule (program (now (ws .entry))) (envOf (now (env .entry))) k n x y (typesOf (operands k y) types)) ⌝ }
 {

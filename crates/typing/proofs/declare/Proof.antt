@@ -1,29 +1,13 @@
-use borrow.Author.Needs.{needs}
-use Rattle.typing.specs.Untyped.{Declaring, declare-start, declare-on, declare-end, type-declared, within-ok, within-bad}
-use Rattle.typing.specs.Env.{typeWords}
+-- `typing::declare` meets its contract.
+use Prim.Native.Nat.{_+_, _-_, _<_}
 use Rattle.image.specs.Trailer.{typeCount}
-use lib.ListN.{length}
-use Rattle.typing.specs.RuleLaws.{Comparing, compare-start, compare-on, compare-fails, compare-end, subtypes-lengths, cast-none, cast-class, get-none, get-nothing, get-field, set-none, set-nothing, set-field, eq-types, var-none, var-type, assign-none, assign-type, call-none, call-nothing, call-method, method-arguments}
-use Rattle.typing.specs.EnvLaws.{word-type}
-use Rattle.typing.specs.Env.{decided, literalWord, typesOf, nowhere}
-use Rattle.rules.specs.Program.{program, typesFrom}
-use Rattle.rules.specs.Maps.{tabulate}
-use Rattle.image.specs.Records.{typeAt}
-use Rattle.words.specs.Types.{typeOf}
-use borrow.Author.Tests.{not-true, not-false, eq-eqb}
-use native.Mathlib.Numerals.{add-one}
-use native.Mathlib.Omega.{arith}
-use lib.Dec.{eqb}
-use lib.ListN.{getD}
-use Prim.Native.Nat.{ℕ, suc, _+_, _-_, _≤_, _<_}
-use mathlib.Core.List.{List, [], _∷_}
-use mathlib.Core.Bool.{true, false}
-use mathlib.Core.Path.{_≡_, refl, sym, _∙_, ap}
 use Rattle.typing.proofs.declare.Statement.{statement}
+use Rattle.typing.specs.Env.{typeWords}
+use Rattle.typing.specs.Untyped.{declare-end, declare-on, declare-start, Declaring, type-declared}
+use borrow.Author.Needs.{needs}
+use mathlib.Core.Path.{_∙_, sym}
+use native.Mathlib.Omega.{arith}
 use Rattle.typing.proofs.declare.Tie as tie
-use Rattle.typing.proofs.declare.Reads as reads
-use Rattle.typing.proofs.declare.Lts as lts
-use Rattle.image.proofs.type_word.Reads as type-word-reads
 
 abbrev Inv-loop : tie.InvT-loop
 Inv-loop ws l env₀ first count j₀ env j = Declaring ws first count env j
@@ -31,51 +15,39 @@ Inv-loop ws l env₀ first count j₀ env j = Declaring ws first count env j
 abbrev μ-loop : tie.MeasureT-loop
 μ-loop ws l env₀ first count j₀ env j = j
 
--- src/lib.rt:403:5
 loop-holds : tie.Need-loop-holds Inv-loop μ-loop
 loop-holds c = declare-start _ _ _ _ (c .before .before .pre .1) (c .before .before .pre .2)
 
--- src/lib.rt:404:9
 sub-j : tie.Need-sub-j Inv-loop μ-loop
 sub-j c = search needs
 
--- src/lib.rt:405:46
 add-type-word : tie.Need-add-type-word Inv-loop μ-loop
 add-type-word c = search needs
 
--- src/lib.rt:405:22
 type-word-requires : tie.Need-type-word-requires Inv-loop μ-loop
 type-word-requires c κs = (c .before .before .before .before .pre .0 .lay, omega (arith, c .before .loop .inv .within))
 
--- src/lib.rt:405:22
 add-env : tie.Need-add-env Inv-loop μ-loop
 add-env c = let b : (c .before .before .before .before .before .args .first + (c .before .before .loop .j - 1)) < typeCount (c .before .before .before .before .before .args .ws .now) = omega (arith, c .before .before .before .before .before .pre .0 .lay .type-count, c .before .before .loop .inv .within) in let w : c .type-word .result < typeWords (c .before .before .before .before .before .args .ws .now) = rw (c .type-word .ensures) (type-declared _ _ (c .before .before .before .before .before .pre .0 .types (c .before .before .before .before .before .args .first + (c .before .before .loop .j - 1)) b)) in omega (arith, c .before .before .loop .inv .within)
 
--- src/lib.rt:405:13
 add-env-2 : tie.Need-add-env-2 Inv-loop μ-loop
 add-env-2 c = let b : (c .before .before .before .before .before .args .first + (c .before .before .loop .j - 1)) < typeCount (c .before .before .before .before .before .args .ws .now) = omega (arith, c .before .before .before .before .before .pre .0 .lay .type-count, c .before .before .loop .inv .within) in let w : c .type-word .result < typeWords (c .before .before .before .before .before .args .ws .now) = rw (c .type-word .ensures) (type-declared _ _ (c .before .before .before .before .before .pre .0 .types (c .before .before .before .before .before .args .first + (c .before .before .loop .j - 1)) b)) in omega (arith, c .before .before .loop .inv .within, c .before .before .before .before .before .pre .0 .small .classes)
 
--- src/lib.rt:405:9
 mul-env : tie.Need-mul-env Inv-loop μ-loop
 mul-env c = search needs
 
--- src/lib.rt:405:9
 slice-write-env : tie.Need-slice-write-env Inv-loop μ-loop
 slice-write-env c = omega (arith, c .before .before .loop .inv .within, c .before .before .loop .inv .ok .size)
 
--- src/lib.rt:403:5
 loop-less : tie.Need-loop-less Inv-loop μ-loop
 loop-less c = search needs
 
--- src/lib.rt:403:5
 loop-again : tie.Need-loop-again Inv-loop μ-loop
 loop-again c = let b : (c .before .before .before .before .before .args .first + (c .before .before .loop .j - 1)) < typeCount (c .before .before .before .before .before .args .ws .now) = omega (arith, c .before .before .before .before .before .pre .0 .lay .type-count, c .before .before .loop .inv .within) in let w : c .type-word .result < typeWords (c .before .before .before .before .before .args .ws .now) = rw (c .type-word .ensures) (type-declared _ _ (c .before .before .before .before .before .pre .0 .types (c .before .before .before .before .before .args .first + (c .before .before .loop .j - 1)) b)) in declare-on _ _ _ _ (c .before .before .loop .j) _ (c .before .before .loop .inv) (omega arith) (omega arith) (c .type-word .ensures) w
 
--- src/lib.rt:398:1
 same-length : tie.Need-same-length Inv-loop μ-loop
 same-length c = c .before .loop .inv .ok .size ∙ sym (c .before .before .before .before .pre .1 .size)
 
--- src/lib.rt:398:1
 returns : tie.Need-returns Inv-loop μ-loop
 returns c = (c .before .loop .inv .ok, declare-end _ _ _ _ (c .before .loop .j) (c .before .loop .inv) (omega arith))
 
