@@ -13,9 +13,10 @@ use Rattle.image.specs.Numbers.{variables}
 use Rattle.image.specs.Trailer.{classCount}
 use Rattle.image.specs.Nodes.{nodeWord, kindOf}
 use Rattle.rules.specs.Maps.{tabulate}
-use Rattle.rules.specs.Program.{Env, program}
+use Rattle.rules.specs.Program.{Env, Program, program, Method, methodAt, methodEnv, main, mainEnv}
+use Rattle.figures.specs.FirstBreach.{bounded}
 use Rattle.rules.specs.Typing.{Res, ok, bad, _>>=_, typing}
-use Rattle.rules.specs.Trees.{tree, operand}
+use Rattle.rules.specs.Trees.{tree, operand, place}
 use Rattle.laws.specs.Trees.{operandCount}
 use Rattle.typing.specs.Node.{nodeRule, operandTypes}
 use Rattle.typing.specs.declared.Typed.{Typed}
@@ -145,3 +146,15 @@ operandsTyping ws n env =
 unfoldable pub ruleOf : List ℕ → (n : ℕ) → List ℕ → Res (List Ty) → Res Ty
 ruleOf ws n env r =
     r >>= nodeRule (program ws) (envOf env) (kindOf (nodeWord ws n 0)) n (nodeWord ws n 2) (nodeWord ws n 3)
+
+-- a body's type, below the result of its method; main has no result to be below
+unfoldable pub within : Program → (n u : ℕ) → Res Ty → Res Ty
+within P n u r = bounded P (some (typeOf u)) n r
+
+unfoldable pub methodTyping : List ℕ → ℕ → Res Ty
+methodTyping ws i =
+    let m = methodAt ws i in
+    bounded (program ws) (some (m .result)) (place (m .body)) (typing (program ws) (m .body) (methodEnv m))
+
+unfoldable pub mainTyping : List ℕ → Res Ty
+mainTyping ws = bounded (program ws) none (place (main ws)) (typing (program ws) (main ws) (mainEnv ws))

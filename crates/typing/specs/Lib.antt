@@ -5,3 +5,5 @@ pub mod Node
 pub mod EnvLaws
 pub mod RuleLaws
 pub mod ListLaws
+pub mod Bodies
+pub mod Untyped

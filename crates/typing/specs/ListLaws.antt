@@ -29,8 +29,10 @@ pub types-set : (types : List ℕ) (i t : ℕ) → i < length types → typesOf 
 unfolding typesOf
 types-set types i t h =
     tabulate-last i (λ j. typeOf (getD (set types i t) j 0))
-    ∙ rw (getD-set-same types i t 0 h,
-      tabulate-same i (λ j. typeOf (getD (set types i t) j 0)) (λ j. typeOf (getD types j 0)) (λ j l. ap typeOf (getD-set-other types i j t 0 (λ e. omega arith))))
+    ∙ rw (
+      getD-set-same types i t 0 h,
+      tabulate-same i (λ j. typeOf (getD (set types i t) j 0)) (λ j. typeOf (getD types j 0)) (λ j l. ap typeOf (getD-set-other types i j t 0 (λ e. omega arith))),
+    )
 
 pub known-set : (ws types : List ℕ) (i t : ℕ) → i < length types → t < typeWords ws → AllKnown ws types → AllKnown ws (set types i t)
 known-set ws types i t l h a j = go (eqb j i) refl
@@ -39,7 +41,7 @@ known-set ws types i t l h a j = go (eqb j i) refl
     go true e = rw (eqb-true j i e, getD-set-same types i t 0 l) h
     go false e = rw (getD-set-other types i j t 0 (eqb-false j i e)) (a j)
 
-zero-at : (k i : ℕ) → _≡_ {A = ℕ} (getD (replicate k 0) i 0) 0
+pub zero-at : (k i : ℕ) → _≡_ {A = ℕ} (getD (replicate k 0) i 0) 0
 zero-at zero i = refl
 zero-at (suc k) zero = refl
 zero-at (suc k) (suc i) = zero-at k i

@@ -248,9 +248,11 @@ module _ (ws : List ℕ) (n x : ℕ) where
       → Answers ws (decided (eqb d y) n (fieldWord ws i 2)) (nodeRule (program ws) Γ Get n x y (typeOf t ∷ []))
   unfolding nodeRule fieldAt
   get-field Γ y t d i h g f =
-      rw (class-ok n t (λ c. found n (seesField (program ws) c x) >>= (λ r. need (eqb (r .owner) y) n (r .type))) h,
+      rw (
+        class-ok n t (λ c. found n (seesField (program ws) c x) >>= (λ r. need (eqb (r .owner) y) n (r .type))) h,
         found-ok n (seesField (program ws) (t - 4) x) (fieldAt ws i) (λ r. need (eqb (r .owner) y) n (r .type)) (f .sees),
-        ← f .owner)
+        ← f .owner,
+      )
       (answer-need ws n (eqb (fieldWord ws i 0) y) (fieldWord ws i 2) (field-type ws i g))
 
   pub set-none : (Γ : Env) (y t u : ℕ) → t < 4 → Answers ws (Not n) (nodeRule (program ws) Γ Set n x y (typeOf t ∷ typeOf u ∷ []))
@@ -266,9 +268,11 @@ module _ (ws : List ℕ) (n x : ℕ) where
       → Answers ws (decided (eqb d y && subtype (program ws) (typeOf u) (typeOf (fieldWord ws i 2))) n u) (nodeRule (program ws) Γ Set n x y (typeOf t ∷ typeOf u ∷ []))
   unfolding nodeRule fieldAt
   set-field Γ y t u d i h g f =
-      rw (class-ok n t (λ c. found n (seesField (program ws) c x) >>= (λ r. need (eqb (r .owner) y && subtype (program ws) (typeOf u) (r .type)) n (typeOf u))) h,
+      rw (
+        class-ok n t (λ c. found n (seesField (program ws) c x) >>= (λ r. need (eqb (r .owner) y && subtype (program ws) (typeOf u) (r .type)) n (typeOf u))) h,
         found-ok n (seesField (program ws) (t - 4) x) (fieldAt ws i) (λ r. need (eqb (r .owner) y && subtype (program ws) (typeOf u) (r .type)) n (typeOf u)) (f .sees),
-        ← f .owner)
+        ← f .owner,
+      )
       (answer-need ws n (eqb (fieldWord ws i 0) y && subtype (program ws) (typeOf u) (typeOf (fieldWord ws i 2))) u g)
 
   pub eq-types : (Γ : Env) (y a b : ℕ)
@@ -313,8 +317,10 @@ module _ (ws : List ℕ) (n x : ℕ) where
     unfolding nodeRule typesOf tabulate methodAt
     call-method d i h g f =
         let us = tabulate y (λ j. typeOf (getD types (suc j) 0)) in
-        rw (class-ok n (getD types 0 0) (λ c. found n (seesMethod (program ws) c x) >>= (λ r. need (subtypes (program ws) us (r .params)) n (r .result))) h,
-          found-ok n (seesMethod (program ws) (getD types 0 0 - 4) x) (methodAt ws i) (λ r. need (subtypes (program ws) us (r .params)) n (r .result)) (f .sees))
+        rw (
+          class-ok n (getD types 0 0) (λ c. found n (seesMethod (program ws) c x) >>= (λ r. need (subtypes (program ws) us (r .params)) n (r .result))) h,
+          found-ok n (seesMethod (program ws) (getD types 0 0 - 4) x) (methodAt ws i) (λ r. need (subtypes (program ws) us (r .params)) n (r .result)) (f .sees),
+        )
         (answer-need ws n _ (methodWord ws i 2) (method-result ws i g))
 
 -- ARGUMENTS

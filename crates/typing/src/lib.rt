@@ -14,17 +14,20 @@ ghost use Rattle.image.specs.Trailer.{classCount};
 ghost use Rattle.image.specs.Nodes.{namesHold, operands};
 ghost use Rattle.laws.specs.Trees.{operandCount};
 ghost use Rattle.image.specs.Layout.{Good};
-ghost use Rattle.rules.specs.Maps.{tabulate};
+ghost use Rattle.order.specs.Rules.{firstPlace};
+ghost use Rattle.rules.specs.Maps.{tabulate, from};
+ghost use Rattle.rules.specs.Numbers.{typingRule};
 ghost use Rattle.rules.specs.Trees.{tree};
 ghost use Rattle.rules.specs.Typing.{typing as Typing·typing};
 ghost use Rattle.rules.specs.Program.{program, typesFrom};
 ghost use Rattle.rules.specs.Classes.{subtypes};
-ghost use Rattle.typing.specs.Env.{typeWords, envOf, EnvOk, Answers, AllKnown, Lists, resTys, decided, literalWord, nowhere, typesOf, boundVar, boundWord, operandVar, operandWord, operandTyping, operandsTyping, ruleOf};
+ghost use Rattle.typing.specs.Env.{typeWords, envOf, EnvOk, Answers, Known, AllKnown, Lists, resTys, decided, literalWord, nowhere, typesOf, boundVar, boundWord, operandVar, operandWord, operandTyping, operandsTyping, ruleOf, resTy, within, methodTyping, mainTyping};
 ghost use Rattle.typing.specs.Node.{nodeRule};
 use classes::Members;
 use classes::Seen;
 use image::Kind;
 use image::Layout;
+use order::Found;
 
 const VOID: u32 = 0;
 
@@ -117,7 +120,11 @@ fn cast_rule(ws: &[u32], l: Layout, n: usize, x: u32, t: u32) -> Typed
     }
     let c = (t - FIRST_CLASS) as usize;
     let d = x as usize;
-    decide(classes::is_subclass(ws, l, c, d) | classes::is_subclass(ws, l, d, c), n, FIRST_CLASS + x)
+    decide(
+        classes::is_subclass(ws, l, c, d) | classes::is_subclass(ws, l, d, c),
+        n,
+        FIRST_CLASS + x,
+    )
 }
 
 // One of the two types is a subtype of the other.
@@ -125,7 +132,11 @@ fn eq_rule(ws: &[u32], l: Layout, n: usize, a: u32, b: u32) -> Typed
     requires { ⌜ Good (now ws) l × (a < typeWords (now ws)) × (b < typeWords (now ws)) ⌝ }
     ensures { λ r. ⌜ Answers (now (ws .entry)) r (nodeRule (program (now (ws .entry))) nowhere Eq n 0 0 (typeOf a ∷ typeOf b ∷ [])) ⌝ }
 {
-    decide(classes::is_subtype(ws, l, a, b) | classes::is_subtype(ws, l, b, a), n, BOOLEAN)
+    decide(
+        classes::is_subtype(ws, l, a, b) | classes::is_subtype(ws, l, b, a),
+        n,
+        BOOLEAN,
+    )
 }
 
 fn var_rule(ws: &[u32], env: &[u32], n: usize, x: u32) -> Typed
@@ -159,7 +170,13 @@ fn get_rule(ws: &[u32], l: Layout, n: usize, x: u32, y: u32, t: u32) -> Typed
     if t < FIRST_CLASS {
         return Typed::Not(n);
     }
-    match classes::look_up(ws, l, Members::Fields, (t - FIRST_CLASS) as usize, x as usize) {
+    match classes::look_up(
+        ws,
+        l,
+        Members::Fields,
+        (t - FIRST_CLASS) as usize,
+        x as usize,
+    ) {
         Seen::At(d, i) => decide(d == y as usize, n, image::field_word(ws, l, i, 2)),
         Seen::Nothing => Typed::Not(n),
     }
@@ -173,7 +190,13 @@ fn set_rule(ws: &[u32], l: Layout, n: usize, x: u32, y: u32, t: u32, u: u32) -> 
     if t < FIRST_CLASS {
         return Typed::Not(n);
     }
-    match classes::look_up(ws, l, Members::Fields, (t - FIRST_CLASS) as usize, x as usize) {
+    match classes::look_up(
+        ws,
+        l,
+        Members::Fields,
+        (t - FIRST_CLASS) as usize,
+        x as usize,
+    ) {
         Seen::At(d, i) => {
             let below = classes::is_subtype(ws, l, u, image::field_word(ws, l, i, 2));
             decide((d == y as usize) & below, n, u)
@@ -183,7 +206,14 @@ fn set_rule(ws: &[u32], l: Layout, n: usize, x: u32, y: u32, t: u32, u: u32) -> 
 }
 
 // As many arguments as parameters, each type below its parameter's. The receiver's type stands first.
-fn args_below(ws: &[u32], l: Layout, types: [u32; 9], given: usize, first: usize, count: usize) -> bool
+fn args_below(
+    ws: &[u32],
+    l: Layout,
+    types: [u32; 9],
+    given: usize,
+    first: usize,
+    count: usize,
+) -> bool
     requires { ⌜ Good (now ws) l × AllKnown (now ws) types × (given ≤ mostArguments) × (first + count ≤ l .«type_count») ⌝ }
     ensures { λ r. ⌜ r ≡ subtypes (program (now (ws .entry))) (tabulate given (λ i. typeOf (getD types (suc i) 0))) (typesFrom (now (ws .entry)) first count) ⌝ }
 {
@@ -209,7 +239,13 @@ fn call_rule(ws: &[u32], l: Layout, n: usize, x: u32, y: u32, types: [u32; 9]) -
     if t < FIRST_CLASS {
         return Typed::Not(n);
     }
-    match classes::look_up(ws, l, Members::Methods, (t - FIRST_CLASS) as usize, x as usize) {
+    match classes::look_up(
+        ws,
+        l,
+        Members::Methods,
+        (t - FIRST_CLASS) as usize,
+        x as usize,
+    ) {
         Seen::At(_, i) => {
             let first = image::method_word(ws, l, i, 3) as usize;
             let count = image::method_word(ws, l, i, 4) as usize;
@@ -221,7 +257,16 @@ fn call_rule(ws: &[u32], l: Layout, n: usize, x: u32, y: u32, types: [u32; 9]) -
 }
 
 // The type of node n from its operands' types: its own premises.
-fn node_rule(ws: &[u32], l: Layout, env: &[u32], k: Kind, n: usize, x: u32, y: u32, types: [u32; 9]) -> Typed
+fn node_rule(
+    ws: &[u32],
+    l: Layout,
+    env: &[u32],
+    k: Kind,
+    n: usize,
+    x: u32,
+    y: u32,
+    types: [u32; 9],
+) -> Typed
     requires { ⌜ Good (now ws) l × EnvOk (now ws) (now env) × (namesHold (classCount (now ws)) k x y ≡ true) × AllKnown (now ws) types ⌝ }
     ensures { λ r. ⌜ Answers (now (ws .entry)) r (nodeRule (program (now (ws .entry))) (envOf (now (env .entry))) k n x y (typesOf (operands k y) types)) ⌝ }
 {
@@ -389,4 +434,73 @@ fn type_operand(ws: &[u32], l: Layout, env: &mut [u32], n: usize, j: usize) -> T
     let r = type_node(ws, l, env, m);
     bind(env, v, old);
     r
+}
+
+// Gives `count` variables from 1 on the types that stand from type word `first` on.
+fn declare(ws: &[u32], l: Layout, env: &mut [u32], first: usize, count: usize)
+    requires { ⌜ Good (now ws) l × EnvOk (now ws) (now env) × ((x : ℕ) → getD (now env) x 0 ≡ 0) × (first + count ≤ l .«type_count») × (count ≤ mostArguments) ⌝ }
+    ensures { λ _. ⌜ EnvOk (now (ws .entry)) (now (env .exit)) × (envOf (now (env .exit)) ≡ from 1 (typesFrom (now (ws .entry)) first count)) ⌝ }
+{
+    let mut j = count;
+    while j > 0 {
+        j -= 1;
+        env[j + 1] = image::type_word(ws, l, first + j) + 1;
+    }
+}
+
+// A body's answer, where its last node n must have a type below u.
+fn below(ws: &[u32], l: Layout, r: Typed, n: usize, u: u32) -> Typed
+    requires { ⌜ Good (now ws) l × Known (now ws) r ⌝ }
+    ensures { λ t. ⌜ resTy t ≡ within (program (now (ws .entry))) n u (resTy r) ⌝ }
+{
+    match r {
+        Typed::Is(t) => decide(classes::is_subtype(ws, l, t, u), n, t),
+        Typed::Not(p) => Typed::Not(p),
+    }
+}
+
+// The body of method i. Its variables are `this` and the parameters.
+fn type_method(ws: &[u32], l: Layout, i: usize) -> Typed
+    requires { ⌜ Good (now ws) l × (i < l .«method_count») ⌝ }
+    ensures { λ r. ⌜ resTy r ≡ methodTyping (now (ws .entry)) i ⌝ }
+{
+    let mut env = [0u32; 64];
+    let first = image::method_word(ws, l, i, 3) as usize;
+    let count = image::method_word(ws, l, i, 4) as usize;
+    declare(ws, l, &mut env, first, count);
+    env[0] = FIRST_CLASS + 1 + image::method_word(ws, l, i, 0);
+    let n = image::method_word(ws, l, i, 5) as usize;
+    let r = type_node(ws, l, &mut env, n);
+    below(ws, l, r, n, image::method_word(ws, l, i, 2))
+}
+
+// Main. Its variables are the inputs, whose types are the last type words.
+fn type_main(ws: &[u32], l: Layout) -> Typed
+    requires { ⌜ Good (now ws) l ⌝ }
+    ensures { λ r. ⌜ resTy r ≡ mainTyping (now (ws .entry)) ⌝ }
+{
+    let mut env = [0u32; 64];
+    declare(ws, l, &mut env, l.type_count - l.inputs, l.inputs);
+    type_node(ws, l, &mut env, l.main)
+}
+
+// 12: the first node without a type, or whose type is not below the result of the body that it ends.
+pub fn untyped_place(ws: &[u32], l: Layout) -> Found
+    requires { ⌜ Good (now ws) l ⌝ }
+    ensures { λ r. ⌜ r ≡ firstPlace (typingRule (now (ws .entry))) ⌝ }
+{
+    let mut i = 0;
+    while i < l.method_count {
+        match type_method(ws, l, i) {
+            Typed::Is(_) => {},
+            Typed::Not(p) => {
+                return Found::At(p);
+            },
+        }
+        i += 1;
+    }
+    match type_main(ws, l) {
+        Typed::Is(_) => Found::Nowhere,
+        Typed::Not(p) => Found::At(p),
+    }
 }

@@ -1,18 +1,16 @@
-use Rattle.typing.specs.EnvLaws.{node-holds, operand-known, operand-ok, ok-set, given-back}
-use Rattle.typing.specs.ListLaws.{Listing, known-zeros, list-start, list-end, list-bad, list-on, type-node as node-typing}
-use Rattle.typing.specs.ListLaws.{Listing, list-start, list-end, list-bad, list-on, type-node as node-typing}
-use Rattle.typing.specs.EnvLaws.{node-holds, operand-known, operand-ok, ok-set, set-back}
-use Rattle.typing.specs.Env.{envOf, Answers, Lists, resTys, operandTyping, operandsTyping, operandEnv, typesOf}
+-- `type_list`, `type_node` and `type_operand`, which call each other, meet their contracts. A call of a node comes back to its operands, whose numbers are lower.
+use Prim.Native.Nat.{_*_, _-_, _<_, suc, ℕ}
+use Rattle.typing.proofs.+type_list+type_node+type_operand.{statement}
+use Rattle.typing.proofs.+type_list+type_node+type_operand.Tie.{close}
+use Rattle.typing.specs.Env.{operandEnv, operandTyping}
+use Rattle.typing.specs.EnvLaws.{given-back, node-holds, ok-set, operand-known}
+use Rattle.typing.specs.ListLaws.{known-zeros, list-bad, list-end, list-on, list-start, Listing, type-node as node-typing}
 use borrow.Author.Needs.{needs}
-use native.Mathlib.Numerals.{add-one}
-use native.Mathlib.Omega.{arith}
-use lib.ListN.{length, getD, set, length-set}
-use Prim.Native.Nat.{ℕ, suc, _+_, _*_, _-_, _≤_, _<_}
-use mathlib.Core.Bool.{true, false}
-use mathlib.Core.Path.{_≡_, refl, sym, _∙_, ap}
-use Prim.Native.Nat.{ℕ, _<_}
 use borrow.Fn.Kinds.{In}
-use borrow.Fn.PlainCycle.{Measures, is, falls, and}
+use borrow.Fn.PlainCycle.{and, falls, is, Measures}
+use lib.ListN.{length}
+use mathlib.Core.Path.{_∙_, _≡_, ap, refl}
+use native.Mathlib.Omega.{arith}
 use Rattle.typing.proofs.type_list.Reads as type-list
 use Rattle.typing.proofs.type_list.Kinds as type-list-kinds
 use Rattle.typing.proofs.+type_list+type_node+type_operand.Lts-type_list as type-list-lts
@@ -27,8 +25,6 @@ use Rattle.typing.proofs.bind.Reads as bind-reads
 use Rattle.typing.proofs.finish.Reads as finish-reads
 use Rattle.typing.proofs.operand_bound.Reads as operand-bound-reads
 use Rattle.typing.proofs.operand_total.Reads as operand-total-reads
-use Rattle.typing.proofs.+type_list+type_node+type_operand.{statement}
-use Rattle.typing.proofs.+type_list+type_node+type_operand.Tie.{close}
 
 abbrev μ-type-list : Measures 2 type-list-kinds.ps ℕ
 μ-type-list κs a = suc (3 * (a .1 .1 .1 .0))
@@ -71,7 +67,6 @@ type-list-Inv-loop ws l env₀ n count types₀ i₀ env types i = (env ≡ env�
 abbrev type-list-μ-loop : type-list-lts.MeasureT-loop
 type-list-μ-loop ws l env₀ n count types₀ i₀ env types i = count - i
 
--- src/lib.rt:355:9
 type-list-operand-total-requires : (t : ℕ) → type-list-lts.Need-operand-total-requires (
   operand-total-reads.Asked,
   operand-total-reads.Learnt,
@@ -80,7 +75,6 @@ type-list-operand-total-requires : (t : ℕ) → type-list-lts.Need-operand-tota
 ) (type-list-at t) type-list.Post type-list-Inv-loop type-list-μ-loop
 type-list-operand-total-requires t c κs = search needs
 
--- src/lib.rt:358:5
 type-list-loop-holds : (t : ℕ) → type-list-lts.Need-loop-holds (
   operand-total-reads.Asked,
   operand-total-reads.Learnt,
@@ -89,7 +83,6 @@ type-list-loop-holds : (t : ℕ) → type-list-lts.Need-loop-holds (
 ) (type-list-at t) type-list.Post type-list-Inv-loop type-list-μ-loop
 type-list-loop-holds t c = (refl, list-start _ _ _ _ refl (known-zeros _))
 
--- src/lib.rt:359:43
 type-list-sub-type-operand : (t : ℕ) → type-list-lts.Need-sub-type-operand (
   operand-total-reads.Asked,
   operand-total-reads.Learnt,
@@ -98,7 +91,6 @@ type-list-sub-type-operand : (t : ℕ) → type-list-lts.Need-sub-type-operand (
 ) (type-list-at t) type-list.Post type-list-Inv-loop type-list-μ-loop
 type-list-sub-type-operand t c = search needs
 
--- src/lib.rt:359:43
 type-list-sub-type-operand-2 : (t : ℕ) → type-list-lts.Need-sub-type-operand-2 (
   operand-total-reads.Asked,
   operand-total-reads.Learnt,
@@ -107,7 +99,6 @@ type-list-sub-type-operand-2 : (t : ℕ) → type-list-lts.Need-sub-type-operand
 ) (type-list-at t) type-list.Post type-list-Inv-loop type-list-μ-loop
 type-list-sub-type-operand-2 t c = search needs
 
--- src/lib.rt:359:15
 type-list-type-operand-requires : (t : ℕ) → type-list-lts.Need-type-operand-requires (
   operand-total-reads.Asked,
   operand-total-reads.Learnt,
@@ -116,7 +107,6 @@ type-list-type-operand-requires : (t : ℕ) → type-list-lts.Need-type-operand-
 ) (type-list-at t) type-list.Post type-list-Inv-loop type-list-μ-loop
 type-list-type-operand-requires t c κs = (omega (arith, c .before .before .before .before .before .before .pre .0), (c .before .before .before .before .before .before .pre .1 .0, rw (← c .before .before .loop .inv .0) at (c .before .before .before .before .before .before .pre .1 .1), c .before .before .before .before .before .before .pre .1 .2, omega (arith, c .before .before .before .operand-total .ensures .0)))
 
--- src/lib.rt:360:23
 type-list-enum-known-t : (t : ℕ) → type-list-lts.Need-enum-known-t (
   operand-total-reads.Asked,
   operand-total-reads.Learnt,
@@ -125,7 +115,6 @@ type-list-enum-known-t : (t : ℕ) → type-list-lts.Need-enum-known-t (
 ) (type-list-at t) type-list.Post type-list-Inv-loop type-list-μ-loop
 type-list-enum-known-t t c = search needs
 
--- src/lib.rt:361:17
 type-list-mul-types : (t : ℕ) → type-list-lts.Need-mul-types (
   operand-total-reads.Asked,
   operand-total-reads.Learnt,
@@ -134,7 +123,6 @@ type-list-mul-types : (t : ℕ) → type-list-lts.Need-mul-types (
 ) (type-list-at t) type-list.Post type-list-Inv-loop type-list-μ-loop
 type-list-mul-types t c = search needs
 
--- src/lib.rt:361:17
 type-list-array-write-types : (t : ℕ) → type-list-lts.Need-array-write-types (
   operand-total-reads.Asked,
   operand-total-reads.Learnt,
@@ -143,7 +131,6 @@ type-list-array-write-types : (t : ℕ) → type-list-lts.Need-array-write-types
 ) (type-list-at t) type-list.Post type-list-Inv-loop type-list-μ-loop
 type-list-array-write-types t c = search needs
 
--- src/lib.rt:363:24
 type-list-enum-known-p : (t : ℕ) → type-list-lts.Need-enum-known-p (
   operand-total-reads.Asked,
   operand-total-reads.Learnt,
@@ -152,7 +139,6 @@ type-list-enum-known-p : (t : ℕ) → type-list-lts.Need-enum-known-p (
 ) (type-list-at t) type-list.Post type-list-Inv-loop type-list-μ-loop
 type-list-enum-known-p t c = search needs
 
--- src/lib.rt:364:17
 type-list-same-length : (t : ℕ) → type-list-lts.Need-same-length (
   operand-total-reads.Asked,
   operand-total-reads.Learnt,
@@ -161,7 +147,6 @@ type-list-same-length : (t : ℕ) → type-list-lts.Need-same-length (
 ) (type-list-at t) type-list.Post type-list-Inv-loop type-list-μ-loop
 type-list-same-length t c = ap length (c .before .before .before .before .before .type-operand .ensures .1 ∙ c .before .before .before .before .before .before .before .before .loop .inv .0)
 
--- src/lib.rt:364:17
 type-list-returns : (t : ℕ) → type-list-lts.Need-returns (
   operand-total-reads.Asked,
   operand-total-reads.Learnt,
@@ -170,7 +155,6 @@ type-list-returns : (t : ℕ) → type-list-lts.Need-returns (
 ) (type-list-at t) type-list.Post type-list-Inv-loop type-list-μ-loop
 type-list-returns t c = (record { says = list-bad _ _ _ (node-holds _ _ (c .before .before .before .before .before .before .before .before .before .before .before .before .pre .1 .0) (c .before .before .before .before .before .before .before .before .before .before .before .before .args .n) (c .before .before .before .before .before .before .before .before .before .before .before .before .pre .1 .2)) (c .before .before .before .before .before .before .before .before .before .before .before .before .pre .1 .1) _ _ (c .before .before .before .before .before .before .before .before .loop .inv .1) (rw (c .before .before .before .before .before .before .before .before .before .operand-total .ensures .0) at (c .before .before .before .before .before .before .before .loop-test .taken)) _ (rw (c .before .p .given .1, c .before .before .before .before .before .before .before .before .before .operand-total .ensures .0, c .before .before .before .before .before .before .before .before .loop .inv .0) at (c .before .before .before .before .before .type-operand .ensures .0 .says)); known = c .before .before .before .before .before .before .before .before .loop .inv .1 .known }, c .before .before .before .before .before .type-operand .ensures .1 ∙ c .before .before .before .before .before .before .before .before .loop .inv .0)
 
--- src/lib.rt:371:9
 type-list-add-i : (t : ℕ) → type-list-lts.Need-add-i (
   operand-total-reads.Asked,
   operand-total-reads.Learnt,
@@ -179,7 +163,6 @@ type-list-add-i : (t : ℕ) → type-list-lts.Need-add-i (
 ) (type-list-at t) type-list.Post type-list-Inv-loop type-list-μ-loop
 type-list-add-i t c = search needs
 
--- src/lib.rt:358:5
 type-list-loop-less : (t : ℕ) → type-list-lts.Need-loop-less (
   operand-total-reads.Asked,
   operand-total-reads.Learnt,
@@ -188,7 +171,6 @@ type-list-loop-less : (t : ℕ) → type-list-lts.Need-loop-less (
 ) (type-list-at t) type-list.Post type-list-Inv-loop type-list-μ-loop
 type-list-loop-less t c = search needs
 
--- src/lib.rt:358:5
 type-list-loop-again : (t : ℕ) → type-list-lts.Need-loop-again (
   operand-total-reads.Asked,
   operand-total-reads.Learnt,
@@ -197,7 +179,6 @@ type-list-loop-again : (t : ℕ) → type-list-lts.Need-loop-again (
 ) (type-list-at t) type-list.Post type-list-Inv-loop type-list-μ-loop
 type-list-loop-again t c = (c .before .before .before .before .before .type-operand .ensures .1 ∙ c .before .before .before .before .before .before .before .before .loop .inv .0, list-on _ _ _ (node-holds _ _ (c .before .before .before .before .before .before .before .before .before .before .before .before .pre .1 .0) (c .before .before .before .before .before .before .before .before .before .before .before .before .args .n) (c .before .before .before .before .before .before .before .before .before .before .before .before .pre .1 .2)) (c .before .before .before .before .before .before .before .before .before .before .before .before .pre .1 .1) _ _ (c .before .before .before .before .before .before .before .before .loop .inv .1) (rw (c .before .before .before .before .before .before .before .before .before .operand-total .ensures .0) at (c .before .before .before .before .before .before .before .loop-test .taken)) _ (rw (c .before .t .given .1, c .before .before .before .before .before .before .before .before .before .operand-total .ensures .0, c .before .before .before .before .before .before .before .before .loop .inv .0) at (c .before .before .before .before .before .type-operand .ensures .0 .says)) (omega arith) (rw (c .before .t .given .1) at (c .before .before .before .before .before .type-operand .ensures .0 .known)))
 
--- src/lib.rt:351:1
 type-list-same-length-2 : (t : ℕ) → type-list-lts.Need-same-length-2 (
   operand-total-reads.Asked,
   operand-total-reads.Learnt,
@@ -206,7 +187,6 @@ type-list-same-length-2 : (t : ℕ) → type-list-lts.Need-same-length-2 (
 ) (type-list-at t) type-list.Post type-list-Inv-loop type-list-μ-loop
 type-list-same-length-2 t c = ap length (c .before .loop .inv .0)
 
--- src/lib.rt:351:1
 type-list-returns-2 : (t : ℕ) → type-list-lts.Need-returns-2 (
   operand-total-reads.Asked,
   operand-total-reads.Learnt,
@@ -215,7 +195,6 @@ type-list-returns-2 : (t : ℕ) → type-list-lts.Need-returns-2 (
 ) (type-list-at t) type-list.Post type-list-Inv-loop type-list-μ-loop
 type-list-returns-2 t c = (record { says = list-end _ _ _ _ (c .before .loop .i) (c .before .loop .inv .1) (omega arith); known = c .before .loop .inv .1 .known }, c .before .loop .inv .0)
 
--- src/lib.rt:346:9
 type-node-type-list-requires : (t : ℕ) → type-node-lts.Need-type-list-requires (
   type-list-below t,
   type-list.Post,
@@ -224,7 +203,6 @@ type-node-type-list-requires : (t : ℕ) → type-node-lts.Need-type-list-requir
 ) (type-node-at t) type-node.Post
 type-node-type-list-requires t c κs = search needs
 
--- src/lib.rt:347:5
 type-node-finish-requires : (t : ℕ) → type-node-lts.Need-finish-requires (
   type-list-below t,
   type-list.Post,
@@ -233,7 +211,6 @@ type-node-finish-requires : (t : ℕ) → type-node-lts.Need-finish-requires (
 ) (type-node-at t) type-node.Post
 type-node-finish-requires t c κs = (c .before .before .before .before .before .before .before .pre .1 .0, rw (← c .before .before .before .type-list .ensures .1) at (c .before .before .before .before .before .before .before .pre .1 .1), c .before .before .before .before .before .before .before .pre .1 .2, c .before .before .before .type-list .ensures .0 .known)
 
--- src/lib.rt:342:1
 type-node-same-length : (t : ℕ) → type-node-lts.Need-same-length (
   type-list-below t,
   type-list.Post,
@@ -242,7 +219,6 @@ type-node-same-length : (t : ℕ) → type-node-lts.Need-same-length (
 ) (type-node-at t) type-node.Post
 type-node-same-length t c = ap length (c .before .before .before .before .type-list .ensures .1)
 
--- src/lib.rt:342:1
 type-node-returns : (t : ℕ) → type-node-lts.Need-returns (
   type-list-below t,
   type-list.Post,
@@ -251,7 +227,6 @@ type-node-returns : (t : ℕ) → type-node-lts.Need-returns (
 ) (type-node-at t) type-node.Post
 type-node-returns t c = (rw (c .before .before .before .before .type-list .ensures .1, c .before .before .before .before .type-list .ensures .0 .says, node-typing _ _ _ (node-holds _ _ (c .before .before .before .before .before .before .before .before .pre .1 .0) (c .before .before .before .before .before .before .before .before .args .n) (c .before .before .before .before .before .before .before .before .pre .1 .2)) (c .before .before .before .before .before .before .before .before .pre .1 .1)) at (c .finish .ensures), c .before .before .before .before .type-list .ensures .1)
 
--- src/lib.rt:385:9
 type-operand-operand-place-requires : (t : ℕ) → type-operand-lts.Need-operand-place-requires (
   operand-place-reads.Asked,
   operand-place-reads.Learnt,
@@ -264,7 +239,6 @@ type-operand-operand-place-requires : (t : ℕ) → type-operand-lts.Need-operan
 ) (type-operand-at t) type-operand.Post
 type-operand-operand-place-requires t c κs = (c .before .before .pre .1 .0, c .before .before .pre .1 .2, c .before .before .pre .1 .3)
 
--- src/lib.rt:386:9
 type-operand-operand-bound-requires : (t : ℕ) → type-operand-lts.Need-operand-bound-requires (
   operand-place-reads.Asked,
   operand-place-reads.Learnt,
@@ -277,7 +251,6 @@ type-operand-operand-bound-requires : (t : ℕ) → type-operand-lts.Need-operan
 ) (type-operand-at t) type-operand.Post
 type-operand-operand-bound-requires t c κs = search needs
 
--- src/lib.rt:388:9
 type-operand-bind-requires : (t : ℕ) → type-operand-lts.Need-bind-requires (
   operand-place-reads.Asked,
   operand-place-reads.Learnt,
@@ -290,7 +263,6 @@ type-operand-bind-requires : (t : ℕ) → type-operand-lts.Need-bind-requires (
 ) (type-operand-at t) type-operand.Post
 type-operand-bind-requires t c κs = search needs
 
--- src/lib.rt:389:9
 type-operand-type-node-requires : (t : ℕ) → type-operand-lts.Need-type-node-requires (
   operand-place-reads.Asked,
   operand-place-reads.Learnt,
@@ -303,7 +275,6 @@ type-operand-type-node-requires : (t : ℕ) → type-operand-lts.Need-type-node-
 ) (type-operand-at t) type-operand.Post
 type-operand-type-node-requires t c κs = (omega (arith, c .before .before .before .before .before .before .before .before .before .pre .0, c .before .before .before .before .before .before .operand-place .ensures .1), (c .before .before .before .before .before .before .before .before .before .pre .1 .0, rw (c .before .before .before .bind .ensures .0) (ok-set _ _ _ _ (c .before .before .before .before .before .before .before .before .before .pre .1 .1) (rw (c .before .before .before .before .before .operand-bound .ensures .1) (operand-known _ _ (node-holds _ _ (c .before .before .before .before .before .before .before .before .before .pre .1 .0) (c .before .before .before .before .before .before .before .before .before .args .n) (c .before .before .before .before .before .before .before .before .before .pre .1 .2)) _ (c .before .before .before .before .before .before .before .before .before .pre .1 .1)))), omega (arith, c .before .before .before .before .before .before .operand-place .ensures .1, c .before .before .before .before .before .before .before .before .before .pre .1 .2)))
 
--- src/lib.rt:390:5
 type-operand-bind-requires-2 : (t : ℕ) → type-operand-lts.Need-bind-requires-2 (
   operand-place-reads.Asked,
   operand-place-reads.Learnt,
@@ -316,7 +287,6 @@ type-operand-bind-requires-2 : (t : ℕ) → type-operand-lts.Need-bind-requires
 ) (type-operand-at t) type-operand.Post
 type-operand-bind-requires-2 t c κs = search needs
 
--- src/lib.rt:381:1
 type-operand-same-length : (t : ℕ) → type-operand-lts.Need-same-length (
   operand-place-reads.Asked,
   operand-place-reads.Learnt,
@@ -329,7 +299,6 @@ type-operand-same-length : (t : ℕ) → type-operand-lts.Need-same-length (
 ) (type-operand-at t) type-operand.Post
 type-operand-same-length t c = ap length (given-back (c .before .before .before .before .before .before .before .before .before .before .before .before .before .before .before .before .args .env .now) _ _ _ _ (c .before .before .before .before .before .before .before .before .before .before .before .before .operand-bound .result .word) _ (c .before .before .bind2 .ensures .0) (c .before .before .before .before .before .before .type-node .ensures .1) (c .before .before .before .before .before .before .before .before .before .before .bind .ensures .0) (c .before .before .before .before .before .before .before .before .before .before .bind .ensures .1))
 
--- src/lib.rt:381:1
 type-operand-returns : (t : ℕ) → type-operand-lts.Need-returns (
   operand-place-reads.Asked,
   operand-place-reads.Learnt,

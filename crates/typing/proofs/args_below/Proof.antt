@@ -1,26 +1,18 @@
-use borrow.Author.Needs.{needs}
-use Rattle.typing.specs.RuleLaws.{Comparing, compare-start, compare-on, compare-fails, compare-end, subtypes-lengths, cast-none, cast-class, get-none, get-nothing, get-field, set-none, set-nothing, set-field, eq-types, var-none, var-type, assign-none, assign-type, call-none, call-nothing, call-method, method-arguments}
-use Rattle.typing.specs.EnvLaws.{word-type}
-use Rattle.typing.specs.Env.{decided, literalWord, typesOf, nowhere}
-use Rattle.rules.specs.Program.{program, typesFrom}
-use Rattle.rules.specs.Maps.{tabulate}
+-- `typing::args_below` meets its contract.
+use Prim.Native.Nat.{_+_, _-_, suc}
 use Rattle.image.specs.Records.{typeAt}
+use Rattle.rules.specs.Program.{program, typesFrom}
+use Rattle.typing.proofs.args_below.Statement.{statement}
+use Rattle.typing.specs.EnvLaws.{word-type}
+use Rattle.typing.specs.RuleLaws.{compare-end, compare-fails, compare-on, compare-start, Comparing, subtypes-lengths}
 use Rattle.words.specs.Types.{typeOf}
-use borrow.Author.Tests.{not-true, not-false, eq-eqb}
+use borrow.Author.Needs.{needs}
+use borrow.Author.Tests.{not-false, not-true}
+use lib.ListN.{getD}
+use mathlib.Core.Path.{_∙_, sym}
 use native.Mathlib.Numerals.{add-one}
 use native.Mathlib.Omega.{arith}
-use lib.Dec.{eqb}
-use lib.ListN.{getD}
-use Prim.Native.Nat.{ℕ, suc, _+_, _-_, _≤_, _<_}
-use mathlib.Core.List.{List, [], _∷_}
-use mathlib.Core.Bool.{true, false}
-use mathlib.Core.Path.{_≡_, refl, sym, _∙_, ap}
-use Rattle.typing.proofs.args_below.Statement.{statement}
 use Rattle.typing.proofs.args_below.Tie as tie
-use Rattle.typing.proofs.args_below.Reads as reads
-use Rattle.typing.proofs.args_below.Lts as lts
-use Rattle.classes.proofs.is_subtype.Reads as is-subtype-reads
-use Rattle.image.proofs.type_word.Reads as type-word-reads
 
 abbrev Inv-loop : tie.InvT-loop
 Inv-loop ws l given first count types i₀ i = Comparing (program ws) (λ j. typeOf (getD types (suc j) 0)) (λ j. typeOf (typeAt ws (first + j))) count i
@@ -28,57 +20,44 @@ Inv-loop ws l given first count types i₀ i = Comparing (program ws) (λ j. typ
 abbrev μ-loop : tie.MeasureT-loop
 μ-loop ws l given first count types i₀ i = count - i
 
--- src/lib.rt:181:9
 returns : tie.Need-returns Inv-loop μ-loop
 unfolding typesFrom
 returns c = subtypes-lengths _ _ _ _ _ (c .if1 .taken)
 
--- src/lib.rt:184:5
 loop-holds : tie.Need-loop-holds Inv-loop μ-loop
 loop-holds c = compare-start _ _ _ _
 
--- src/lib.rt:185:46
 add-is-subtype : tie.Need-add-is-subtype Inv-loop μ-loop
 add-is-subtype c = search needs
 
--- src/lib.rt:185:40
 mul-is-subtype : tie.Need-mul-is-subtype Inv-loop μ-loop
 mul-is-subtype c = search needs
 
--- src/lib.rt:185:40
 array-read-is-subtype : tie.Need-array-read-is-subtype Inv-loop μ-loop
 array-read-is-subtype c = search needs
 
--- src/lib.rt:185:78
 add-type-word : tie.Need-add-type-word Inv-loop μ-loop
 add-type-word c = search needs
 
--- src/lib.rt:185:54
 type-word-requires : tie.Need-type-word-requires Inv-loop μ-loop
 type-word-requires c κs = search needs
 
--- src/lib.rt:185:13
 is-subtype-requires : tie.Need-is-subtype-requires Inv-loop μ-loop
 is-subtype-requires c κs = (c .before .before .before .before .before .pre .0, word-type _ _ (c .before .before .before .before .before .pre .1 _))
 
--- src/lib.rt:186:13
 returns-2 : tie.Need-returns-2 Inv-loop μ-loop
 unfolding typesFrom
 returns-2 c = rw (c .before .before .before .before .before .if1 .left) (compare-fails _ _ _ _ (c .before .before .before .before .loop .i) (c .before .before .before .before .loop .inv) (c .before .before .before .loop-test .taken) (rw (← add-one (c .before .before .before .before .loop .i), ← c .before .before .type-word .ensures) (sym (c .before .is-subtype .ensures) ∙ not-true _ (c .if2 .taken))))
 
--- src/lib.rt:188:9
 add-i : tie.Need-add-i Inv-loop μ-loop
 add-i c = search needs
 
--- src/lib.rt:184:5
 loop-less : tie.Need-loop-less Inv-loop μ-loop
 loop-less c = search needs
 
--- src/lib.rt:184:5
 loop-again : tie.Need-loop-again Inv-loop μ-loop
 loop-again c = compare-on _ _ _ _ (c .before .before .before .before .loop .i) (c .before .before .before .before .loop .inv) (c .before .before .before .loop-test .taken) (rw (← add-one (c .before .before .before .before .loop .i), ← c .before .before .type-word .ensures) (sym (c .before .is-subtype .ensures) ∙ not-false _ (c .if2 .left)))
 
--- src/lib.rt:176:1
 returns-3 : tie.Need-returns-3 Inv-loop μ-loop
 unfolding typesFrom
 returns-3 c = rw (c .before .before .if1 .left) (compare-end _ _ _ _ (c .before .loop .i) (c .before .loop .inv) (omega arith))

@@ -1,52 +1,28 @@
-use Rattle.typing.specs.RuleLaws.{Comparing, compare-start, compare-on, compare-fails, compare-end, subtypes-lengths, cast-none, cast-class, get-none, get-nothing, get-field, set-none, set-nothing, set-field, eq-types, var-none, var-type, assign-none, assign-type, call-none, call-nothing, call-method, method-arguments}
-use Rattle.typing.specs.EnvLaws.{word-type}
-use Rattle.typing.specs.Env.{decided, literalWord, typesOf, nowhere}
-use Rattle.rules.specs.Program.{program, typesFrom}
-use Rattle.rules.specs.Maps.{tabulate}
-use Rattle.image.specs.Records.{typeAt}
-use Rattle.words.specs.Types.{typeOf}
-use borrow.Author.Tests.{not-true, not-false, eq-eqb}
-use native.Mathlib.Numerals.{add-one}
-use native.Mathlib.Omega.{arith}
-use lib.Dec.{eqb}
-use lib.ListN.{getD}
-use Prim.Native.Nat.{ℕ, suc, _+_, _-_, _≤_, _<_}
-use mathlib.Core.List.{List, [], _∷_}
-use mathlib.Core.Bool.{true, false}
-use mathlib.Core.Path.{_≡_, refl, sym, _∙_, ap}
-use borrow.Author.Needs.{needs}
+-- `typing::assign_rule` meets its contract.
 use Rattle.typing.proofs.assign_rule.Statement.{statement}
+use Rattle.typing.specs.EnvLaws.{word-type}
+use Rattle.typing.specs.RuleLaws.{assign-none, assign-type}
+use borrow.Author.Needs.{needs}
 use Rattle.typing.proofs.assign_rule.Tie as tie
-use Rattle.typing.proofs.assign_rule.Reads as reads
-use Rattle.typing.proofs.assign_rule.Lts as lts
-use Rattle.classes.proofs.is_subtype.Reads as is-subtype-reads
-use Rattle.typing.proofs.decide.Reads as decide-reads
 
--- src/lib.rt:137:13
 mul-w : tie.Need-mul-w
 mul-w c = search needs
 
--- src/lib.rt:137:13
 shared-slice-read-w : tie.Need-shared-slice-read-w
 shared-slice-read-w c = search needs
 
--- src/lib.rt:139:9
 returns : tie.Need-returns
 returns c = assign-none _ _ _ _ _ _ (c .if1 .taken)
 
--- src/lib.rt:141:53
 sub-is-subtype : tie.Need-sub-is-subtype
 sub-is-subtype c = search needs
 
--- src/lib.rt:141:23
 is-subtype-requires : tie.Need-is-subtype-requires
 is-subtype-requires c κs = (c .before .before .before .before .pre .0, word-type _ _ (c .before .before .before .before .pre .3))
 
--- src/lib.rt:141:5
 decide-requires : tie.Need-decide-requires
 decide-requires c κs = search needs
 
--- src/lib.rt:133:1
 returns-2 : tie.Need-returns-2
 returns-2 c = rw (c .decide .ensures, c .before .is-subtype .ensures) (assign-type _ _ _ _ _ _ (c .before .before .if1 .left) (c .before .before .before .before .before .before .pre .3))
 

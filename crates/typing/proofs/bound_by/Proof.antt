@@ -1,197 +1,140 @@
-use Rattle.typing.specs.ListLaws.{finish-bad, finish-ok}
-use Rattle.typing.specs.EnvLaws.{node-names, word-small, few-operands, operand-var-other}
-use Rattle.typing.specs.Env.{boundVar, boundWord, operandVar, operandWord}
-use lib.ListN.{List·getD-eq-default}
-use lib.Seq.{set-out}
-use Rattle.typing.specs.RuleLaws.{Comparing, compare-start, compare-on, compare-fails, compare-end, subtypes-lengths, cast-none, cast-class, get-none, get-nothing, get-field, set-none, set-nothing, set-field, eq-types, var-none, var-type, assign-none, assign-type, call-none, call-nothing, call-method, method-arguments}
-use Rattle.typing.specs.EnvLaws.{word-type}
-use Rattle.typing.specs.Env.{decided, literalWord, typesOf, nowhere}
-use Rattle.rules.specs.Program.{program, typesFrom}
-use Rattle.rules.specs.Maps.{tabulate}
-use Rattle.image.specs.Records.{typeAt}
-use Rattle.words.specs.Types.{typeOf}
-use borrow.Author.Tests.{not-true, not-false, eq-eqb}
-use native.Mathlib.Numerals.{add-one}
-use native.Mathlib.Omega.{arith}
-use lib.Dec.{eqb}
-use lib.ListN.{getD}
-use Prim.Native.Nat.{ℕ, suc, _+_, _-_, _≤_, _<_}
-use mathlib.Core.List.{List, [], _∷_}
-use mathlib.Core.Bool.{true, false}
-use mathlib.Core.Path.{_≡_, refl, sym, _∙_, ap}
-use borrow.Author.Needs.{needs}
+-- `typing::bound_by` meets its contract.
 use Rattle.typing.proofs.bound_by.Statement.{statement}
+use Rattle.typing.specs.Env.{boundVar, boundWord}
+use borrow.Author.Needs.{needs}
+use mathlib.Core.Path.{refl}
+use native.Mathlib.Omega.{arith}
 use Rattle.typing.proofs.bound_by.Tie as tie
-use Rattle.typing.proofs.bound_by.Reads as reads
-use Rattle.typing.proofs.bound_by.Lts as lts
 
--- src/lib.rt:253:19
 cast-t5 : tie.Need-cast-t5
 cast-t5 c = search needs
 
--- src/lib.rt:257:22
 enum-told : tie.Need-enum-told
 enum-told c = search needs
 
--- src/lib.rt:258:23
 enum-told-2 : tie.Need-enum-told-2
 enum-told-2 c = search needs
 
--- src/lib.rt:259:24
 enum-told-3 : tie.Need-enum-told-3
 enum-told-3 c = search needs
 
--- src/lib.rt:260:22
 enum-told-4 : tie.Need-enum-told-4
 enum-told-4 c = search needs
 
--- src/lib.rt:261:22
 enum-told-5 : tie.Need-enum-told-5
 enum-told-5 c = search needs
 
--- src/lib.rt:262:21
 enum-told-6 : tie.Need-enum-told-6
 enum-told-6 c = search needs
 
--- src/lib.rt:263:25
 enum-told-7 : tie.Need-enum-told-7
 enum-told-7 c = search needs
 
--- src/lib.rt:264:22
 enum-told-8 : tie.Need-enum-told-8
 enum-told-8 c = search needs
 
--- src/lib.rt:265:22
 enum-told-9 : tie.Need-enum-told-9
 enum-told-9 c = search needs
 
--- src/lib.rt:266:23
 enum-told-10 : tie.Need-enum-told-10
 enum-told-10 c = search needs
 
--- src/lib.rt:268:23
 enum-told-11 : tie.Need-enum-told-11
 enum-told-11 c = search needs
 
--- src/lib.rt:269:19
 add-t8 : tie.Need-add-t8
 unfolding boundWord
 add-t8 c = let w = rw (c .enum-told11 .given .1) at (c .before .before .pre) in omega arith
 
--- src/lib.rt:271:22
 enum-told-12 : tie.Need-enum-told-12
 enum-told-12 c = search needs
 
--- src/lib.rt:272:21
 enum-told-13 : tie.Need-enum-told-13
 enum-told-13 c = search needs
 
--- src/lib.rt:273:24
 enum-told-14 : tie.Need-enum-told-14
 enum-told-14 c = search needs
 
--- src/lib.rt:274:24
 enum-told-15 : tie.Need-enum-told-15
 enum-told-15 c = search needs
 
--- src/lib.rt:276:23
 enum-told-16 : tie.Need-enum-told-16
 enum-told-16 c = search needs
 
--- src/lib.rt:277:19
 add-t10 : tie.Need-add-t10
 add-t10 c = search needs
 
--- src/lib.rt:277:19
 add-t11 : tie.Need-add-t11
 unfolding boundWord
 add-t11 c = let w = rw (c .enum-told16 .given .1) at (c .before .before .pre) in omega arith
 
--- src/lib.rt:279:26
 enum-told-17 : tie.Need-enum-told-17
 enum-told-17 c = search needs
 
--- src/lib.rt:248:1
 returns : tie.Need-returns
 unfolding boundVar boundWord
 returns c = rw (c .enum-told .given .1) (refl, refl)
 
--- src/lib.rt:248:1
 returns-2 : tie.Need-returns-2
 unfolding boundVar boundWord
 returns-2 c = rw (c .enum-told2 .given .1) (refl, refl)
 
--- src/lib.rt:248:1
 returns-3 : tie.Need-returns-3
 unfolding boundVar boundWord
 returns-3 c = rw (c .enum-told3 .given .1) (refl, refl)
 
--- src/lib.rt:248:1
 returns-4 : tie.Need-returns-4
 unfolding boundVar boundWord
 returns-4 c = rw (c .enum-told4 .given .1) (refl, refl)
 
--- src/lib.rt:248:1
 returns-5 : tie.Need-returns-5
 unfolding boundVar boundWord
 returns-5 c = rw (c .enum-told5 .given .1) (refl, refl)
 
--- src/lib.rt:248:1
 returns-6 : tie.Need-returns-6
 unfolding boundVar boundWord
 returns-6 c = rw (c .enum-told6 .given .1) (refl, refl)
 
--- src/lib.rt:248:1
 returns-7 : tie.Need-returns-7
 unfolding boundVar boundWord
 returns-7 c = rw (c .enum-told7 .given .1) (refl, refl)
 
--- src/lib.rt:248:1
 returns-8 : tie.Need-returns-8
 unfolding boundVar boundWord
 returns-8 c = rw (c .enum-told8 .given .1) (refl, refl)
 
--- src/lib.rt:248:1
 returns-9 : tie.Need-returns-9
 unfolding boundVar boundWord
 returns-9 c = rw (c .enum-told9 .given .1) (refl, refl)
 
--- src/lib.rt:248:1
 returns-10 : tie.Need-returns-10
 unfolding boundVar boundWord
 returns-10 c = rw (c .enum-told10 .given .1) (refl, refl)
 
--- src/lib.rt:248:1
 returns-11 : tie.Need-returns-11
 unfolding boundVar boundWord
 returns-11 c = rw (c .enum-told11 .given .1) (refl, omega arith)
 
--- src/lib.rt:248:1
 returns-12 : tie.Need-returns-12
 unfolding boundVar boundWord
 returns-12 c = rw (c .enum-told12 .given .1) (refl, refl)
 
--- src/lib.rt:248:1
 returns-13 : tie.Need-returns-13
 unfolding boundVar boundWord
 returns-13 c = rw (c .enum-told13 .given .1) (refl, refl)
 
--- src/lib.rt:248:1
 returns-14 : tie.Need-returns-14
 unfolding boundVar boundWord
 returns-14 c = rw (c .enum-told14 .given .1) (refl, refl)
 
--- src/lib.rt:248:1
 returns-15 : tie.Need-returns-15
 unfolding boundVar boundWord
 returns-15 c = rw (c .enum-told15 .given .1) (refl, refl)
 
--- src/lib.rt:248:1
 returns-16 : tie.Need-returns-16
 unfolding boundVar boundWord
 returns-16 c = rw (c .enum-told16 .given .1) (refl, omega arith)
 
--- src/lib.rt:248:1
 returns-17 : tie.Need-returns-17
 unfolding boundVar boundWord
 returns-17 c = rw (c .enum-told17 .given .1) (refl, refl)

@@ -1,30 +1,12 @@
-use Rattle.typing.specs.RuleLaws.{Comparing, compare-start, compare-on, compare-fails, compare-end, subtypes-lengths, cast-none, cast-class, get-none, get-nothing, get-field, set-none, set-nothing, set-field, eq-types, var-none, var-type, assign-none, assign-type, call-none, call-nothing, call-method, method-arguments}
-use Rattle.typing.specs.EnvLaws.{word-type}
-use Rattle.typing.specs.Env.{decided, literalWord, typesOf, nowhere}
-use Rattle.rules.specs.Program.{program, typesFrom}
-use Rattle.rules.specs.Maps.{tabulate}
-use Rattle.image.specs.Records.{typeAt}
-use Rattle.words.specs.Types.{typeOf}
-use borrow.Author.Tests.{not-true, not-false, eq-eqb}
-use native.Mathlib.Numerals.{add-one}
-use native.Mathlib.Omega.{arith}
-use lib.Dec.{eqb}
-use lib.ListN.{getD}
-use Prim.Native.Nat.{ℕ, suc, _+_, _-_, _≤_, _<_}
-use mathlib.Core.List.{List, [], _∷_}
-use mathlib.Core.Bool.{true, false}
-use mathlib.Core.Path.{_≡_, refl, sym, _∙_, ap}
+-- `typing::decide` meets its contract.
 use Rattle.typing.proofs.decide.Statement.{statement}
+use Rattle.typing.specs.Env.{decided}
 use Rattle.typing.proofs.decide.Tie as tie
-use Rattle.typing.proofs.decide.Reads as reads
-use Rattle.typing.proofs.decide.Lts as lts
 
--- src/lib.rt:49:1
 returns : tie.Need-returns
 unfolding decided
 returns c = rw (c .if1 .taken)
 
--- src/lib.rt:49:1
 returns-2 : tie.Need-returns-2
 unfolding decided
 returns-2 c = rw (c .if1 .left)
