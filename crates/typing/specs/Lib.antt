@@ -5,5 +5,4 @@ pub mod Node
 pub mod EnvLaws
 pub mod RuleLaws
 pub mod ListLaws
-pub mod Bodies
 pub mod Untyped

@@ -27,8 +27,9 @@ use Rattle.rules.specs.Typing.{Res, ok, bad, _>>=_, need, typing}
 use Rattle.rules.specs.Classes.{subtype}
 use Rattle.rules.specs.Sites.{Site, sites, siteTyped}
 use Rattle.rules.specs.Numbers.{joined, methodSites, allSites, typingRule}
-use Rattle.laws.specs.Maps.{range, length-range, tabulate-same}
-use Rattle.laws.specs.Trees.{known, tree-node, body-holds, method-filled, main-filled, body-places, main-places}
+use Rattle.laws.specs.Maps.{stretch, length-stretch, tabulate-same}
+use Rattle.laws.specs.Trees.{known, tree-node}
+use Rattle.laws.specs.Postorder.{body-holds, method-filled, main-filled, body-places, main-places}
 use Rattle.figures.specs.FirstBreach.{AllHold, FirstBreach, bounded, sites-length, body-exactly, body-first}
 use Rattle.figures.specs.Laid.{written-tree}
 use Rattle.typing.specs.declared.Typed.{Typed}
@@ -37,7 +38,7 @@ use Rattle.typing.specs.Env.{entry, envOf, typeWords, EnvOk, resTy, deci
 use Rattle.typing.specs.EnvLaws.{env-set, ok-set, class-word, declared-below}
 use Rattle.typing.specs.ListLaws.{zero-at}
 use Rattle.typing.specs.RuleLaws.{method-arguments, method-class}
-use Rattle.typing.specs.Bodies.{Bodies, Told, told, body-told, main-told, none-told}
+use Rattle.figures.specs.Bodies.{Bodies, Told, told, body-told, main-told, none-told}
 
 -- WHAT BODIES START WITH
 pub type-declared : (ws : List ℕ) (i : ℕ) → typeHolds ws i ≡ true → typeAt ws i < typeWords ws
@@ -226,7 +227,7 @@ module _ (ws : List ℕ) (l : Layout) (g : Good ws l) where
             let r = length-map (sites e (methodEnv (methodAt ws j)) (some (methodAt ws j .result))) (siteTyped (program ws))
             ∙ sites-length e (methodEnv (methodAt ws j)) (some (methodAt ws j .result))
             ∙ ap length (body-places ws hold filled j w)
-            ∙ length-range (bodyStart ws j) (bodyStart ws (suc j)) in
+            ∙ length-stretch (λ i. i) (bodyStart ws j) (bodyStart ws (suc j)) in
             omega (arith, r, s .1);
       }
 

@@ -2,7 +2,7 @@
 use Prim.Native.Nat.{_-_, _<_, _≤_, ℕ}
 use Rattle.figures.specs.FirstBreach.{AllHold}
 use Rattle.typing.proofs.untyped_place.Statement.{statement}
-use Rattle.typing.specs.Bodies.{held-on}
+use Rattle.figures.specs.Bodies.{held-on}
 use Rattle.typing.specs.Untyped.{main-untyped, method-typed, method-untyped, methodTests, none-untyped}
 use borrow.Author.Needs.{needs}
 use mathlib.Core.Path.{_≡_}
