@@ -17,7 +17,7 @@ pub enum Fault {
 pub fn answer(name: &[u8], n: usize, words: &[u32], k: usize)
     requires { ⌜ Counts n (now name) × Counts k (now words) ⌝ }
 {
-    let a = layout::check_layout(&words[..k]);
+    let a = image_check::check_answer(&words[..k]);
     io::write_all(STDOUT_FILENO, &name[..n]);
     io::write_all(STDOUT_FILENO, b" ");
     io::print_decimal(STDOUT_FILENO, a.number);

@@ -56,7 +56,7 @@ const EXAMPLE: [u32; 38] = [
 pub fn show() {
     let words = EXAMPLE;
     sections(&words);
-    say::answer(layout::check_layout(&words));
+    say::answer(image_check::check_answer(&words));
 }
 
 fn sections(ws: &[u32; 38]) {

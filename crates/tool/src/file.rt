@@ -46,7 +46,7 @@ fn check_open(fd: i32, path: &[u8], words: &mut [u32]) {
     } else if all.bytes % 4 != 0 {
         say::error(path, b": the length is no multiple of 4 bytes");
     } else {
-        say::answer(layout::check_layout(&words[..n]));
+        say::answer(image_check::check_answer(&words[..n]));
     }
 }
 

@@ -1,5 +1,5 @@
-// The layout of one image, for a person to read:
-//     layout FILE    the image in a file of 32-bit words, little end first
+// The check of one image, for a person to read:
+//     check FILE     the image in a file of 32-bit words, little end first
 //     demo           a small example, with its words
 // The answer is a line `number N place P` and a line that says what that means. What goes wrong is
 // one line that begins `error: `.
@@ -7,7 +7,7 @@ mod demo;
 mod file;
 mod say;
 
-fn layout_file() {
+fn check_file() {
     let mut path = io::buffer();
     let n = os::arg(2, &mut path);
     if os::errno() != 0 {
@@ -18,8 +18,8 @@ fn layout_file() {
 }
 
 fn run(command: &[u8], count: usize) {
-    if count == 3 && check::same(command, b"layout") {
-        layout_file();
+    if count == 3 && check::same(command, b"check") {
+        check_file();
         return;
     }
     if count == 2 && check::same(command, b"demo") {

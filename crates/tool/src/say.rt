@@ -11,7 +11,7 @@ pub fn number(n: u64) {
 }
 
 pub fn usage() {
-    text(b"error: the arguments are: layout FILE, or demo\n");
+    text(b"error: the arguments are: check FILE, or demo\n");
 }
 
 // A file that gives no image.
@@ -36,7 +36,7 @@ pub fn answer(a: Answer) {
 // The table of the numbers has two columns. The first: of what the place is.
 fn subject(n: u64, place: u64) {
     match n {
-        0 => text(b"the layout holds"),
+        0 => text(b"the image is accepted"),
         1 => text(b"this is no image: "),
         2 | 3 => at(b"trailer word ", place),
         4 => at(b"class record ", place),
@@ -45,6 +45,9 @@ fn subject(n: u64, place: u64) {
         7 => at(b"type word ", place),
         8 => at(b"node ", place),
         9 => at(b"the body of method ", place),
+        10 => at(b"class ", place),
+        11 => at(b"method ", place),
+        12 | 13 => at(b"node ", place),
         _ => text(b"this number has no meaning here"),
     }
 }
@@ -77,6 +80,14 @@ fn rule(n: u64) {
         9 => text(
             b" is broken: bodies fill the nodes in the order of the methods, and main, counted after the last method, ends at the last node",
         ),
+        10 => text(b" has too many fields: a class has at most 15, with those of the classes above it"),
+        11 => text(
+            b" overrides badly: it has as many arguments as the method above it, takes at least what that one takes, and returns no more than that one returns",
+        ),
+        12 => text(
+            b" has no type here, or is a method's last node and its type does not fit the method's result",
+        ),
+        13 => text(b" reads a variable that is not surely set"),
         _ => {}
     }
 }

@@ -1,5 +1,5 @@
 #!/usr/bin/env python3
-"""The layout of an image, numbers 1 to 9, written down a second time to compare with.
+"""The image check, numbers 1 to 13, written down a second time to compare with.
 
 Reads cases on standard input, one a line:
 
@@ -13,6 +13,7 @@ plainly as it can. It is slow on purpose: each number is one function that
 lists every breach of it, and the answer is the lowest of them.
 """
 import sys
+import threading
 
 CEILINGS = [256, 1024, 1024, 2048, 4096]  # classes, fields, methods, type words, nodes
 RECORD = [1, 3, 6, 1, 4]                  # words in a record of each section
@@ -217,6 +218,205 @@ def layout(words):
     return 0, 0
 
 
+# From here on the layout holds. A type is its word; a class c is the type 4 + c.
+
+VOID, BOOL, INTEGER, NULL_TYPE = 0, 1, 2, 3
+MOST_FIELDS_ABOVE = 15
+EVERY_VARIABLE = frozenset(range(64))
+
+
+def above(image, c):
+    """The classes from c upwards."""
+    chain = [c]
+    while c != 0:
+        c = image.classes[c]
+        chain.append(c)
+    return chain
+
+
+def is_subtype(image, t, u):
+    if t == u:
+        return True
+    if t == NULL_TYPE:
+        return u >= 4
+    return t >= 4 and u >= 4 and u - 4 in above(image, t - 4)
+
+
+def seen(image, table, c, name):
+    """The record of that name in the first class that declares it, going up from c."""
+    for d in above(image, c):
+        for record in table:
+            if record[0:2] == [d, name]:
+                return record
+    return None
+
+
+def parameters(image, method):
+    return image.types[method[3]:method[3] + method[4]]
+
+
+def breaches_10(image):
+    for c in range(len(image.classes)):
+        line = above(image, c)
+        if sum(1 for record in image.fields if record[0] in line) > MOST_FIELDS_ABOVE:
+            yield c
+
+
+def breaches_11(image):
+    for i, method in enumerate(image.methods):
+        other = seen(image, image.methods, image.classes[method[0]], method[1])
+        if other is None:
+            continue
+        mine, theirs = parameters(image, method), parameters(image, other)
+        if len(mine) != len(theirs):
+            yield i
+        elif not all(is_subtype(image, u, t) for t, u in zip(mine, theirs)):
+            yield i
+        elif not is_subtype(image, method[2], other[2]):
+            yield i
+
+
+def operand_nodes(image, n):
+    """The last nodes of the operands of node n, first operand first."""
+    kind, _, _, y = image.nodes[n]
+    found = []
+    end = n - 1
+    for _ in range(operands(kind, y)):
+        found.insert(0, end)
+        end -= image.nodes[end][1]
+    return found
+
+
+def bodies(image):
+    """Each body: its node, its environment, its first variables, and the type that its own must be below."""
+    for method in image.methods:
+        types = [4 + method[0]] + parameters(image, method)
+        yield method[5], dict(enumerate(types)), frozenset(range(len(types))), method[2]
+    types = image.types[len(image.types) - image.inputs:]
+    yield image.main, dict(enumerate(types, 1)), frozenset(range(1, len(types) + 1)), None
+
+
+def type_of(image, n, env, untyped):
+    """The type of node n, or None; every node without a type goes into the list."""
+    kind, _, x, y = image.nodes[n]
+    types = []
+    for i, m in enumerate(operand_nodes(image, n)):
+        inner = env
+        if kind == 10:
+            inner = env | {x: y}
+        elif kind == 15 and i == 1:
+            inner = env | {y: 4 + x}
+        types.append(type_of(image, m, inner, untyped))
+    found = None
+    if None not in types:
+        found = own_type(image, kind, x, y, env, types)
+    if found is None:
+        untyped.append(n)
+    return found
+
+
+def own_type(image, kind, x, y, env, types):
+    """The type of a node whose operands have these types."""
+    first = types[0] if types else None
+    if kind == 0:                                       # New
+        return 4 + x
+    if kind == 1:                                       # Cast
+        related = first >= 4 and (is_subtype(image, first, 4 + x) or is_subtype(image, 4 + x, first))
+        return 4 + x if related else None
+    if kind == 2:                                       # Value
+        return {0: VOID, 1: NULL_TYPE, 2: BOOL, 3: INTEGER}[x]
+    if kind == 3:                                       # Var
+        return env.get(x)
+    if kind == 4:                                       # Add
+        return INTEGER if types == [INTEGER, INTEGER] else None
+    if kind == 5:                                       # Eq
+        return BOOL if is_subtype(image, types[0], types[1]) or is_subtype(image, types[1], types[0]) else None
+    if kind == 6:                                       # Assign
+        return first if x != 0 and x in env and is_subtype(image, first, env[x]) else None
+    if kind in (7, 8):                                  # field get, field set
+        record = seen(image, image.fields, first - 4, x) if first >= 4 else None
+        if record is None or record[0] != y:
+            return None
+        if kind == 7:
+            return record[2]
+        return types[1] if is_subtype(image, types[1], record[2]) else None
+    if kind == 9:                                       # Call
+        method = seen(image, image.methods, first - 4, x) if first >= 4 else None
+        if method is None or len(types) - 1 != method[4]:
+            return None
+        fits = all(is_subtype(image, t, u) for t, u in zip(types[1:], parameters(image, method)))
+        return method[2] if fits else None
+    if kind == 10:                                      # Block
+        return first
+    if kind == 11:                                      # Seq
+        return types[1]
+    if kind == 12:                                      # If
+        return types[1] if first == BOOL and types[1] == types[2] else None
+    if kind == 13:                                      # While
+        return VOID if first == BOOL else None
+    if kind == 14:                                      # Throw
+        return x if first >= 4 else None
+    return first if types[0] == types[1] else None      # Try
+
+
+def breaches_12(image):
+    for body, env, _, result in bodies(image):
+        untyped = []
+        found = type_of(image, body, env, untyped)
+        yield from untyped
+        if found is not None and result is not None and not is_subtype(image, found, result):
+            yield body
+
+
+def after(image, n, before, unset):
+    """The variables surely set after node n; every node that reads another one goes into the list."""
+    kind, _, x, y = image.nodes[n]
+    below = operand_nodes(image, n)
+    if kind == 3:                                       # Var
+        if x not in before:
+            unset.append(n)
+        return before
+    if kind == 10:                                      # Block
+        inner = after(image, below[0], before - {x}, unset)
+        return inner | {x} if x in before else inner - {x}
+    if kind == 12:                                      # If
+        middle = after(image, below[0], before, unset)
+        return after(image, below[1], middle, unset) & after(image, below[2], middle, unset)
+    if kind == 13:                                      # While
+        middle = after(image, below[0], before, unset)
+        after(image, below[1], middle, unset)
+        return middle
+    if kind == 15:                                      # Try
+        first = after(image, below[0], before, unset)
+        second = after(image, below[1], before | {y}, unset)
+        return first & (second | {y} if y in before else second - {y})
+    for m in below:
+        before = after(image, m, before, unset)
+    if kind == 6:                                       # Assign
+        return before | {x}
+    return EVERY_VARIABLE if kind == 14 else before     # Throw; all others
+
+
+def breaches_13(image):
+    for body, _, start, _ in bodies(image):
+        unset = []
+        after(image, body, start, unset)
+        yield from unset
+
+
+def check(words):
+    """The answer of the image check."""
+    number, place = layout(words)
+    if number:
+        return number, place
+    image = Image(words)
+    for number, breaches in enumerate((breaches_10, breaches_11, breaches_12, breaches_13), 10):
+        places = list(breaches(image))
+        if places:
+            return number, min(places)
+    return 0, 0
+
+
 class BadLine(Exception):
     pass
 
@@ -267,10 +467,15 @@ def main():
             continue
         try:
             name, words = read_case(line)
-            out.write(b"%s %d %d\n" % ((name,) + layout(words)))
+            out.write(b"%s %d %d\n" % ((name,) + check(words)))
         except BadLine as wrong:
             out.write(b"line %d: %s\n" % (number, str(wrong).encode()))
 
 
 if __name__ == "__main__":
-    main()
+    # A tree may be as deep as it has nodes.
+    sys.setrecursionlimit(100000)
+    threading.stack_size(512 * 1024 * 1024)
+    work = threading.Thread(target=main)
+    work.start()
+    work.join()

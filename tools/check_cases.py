@@ -1,18 +1,18 @@
 #!/usr/bin/env python3
-"""Cases for the layout of an image, in the form that layout_reference.py reads.
+"""Cases for the layout of an image, in the form that check_reference.py reads.
 
-    layout_cases.py extra
+    check_cases.py extra
         prints the hand-made cases: the ceilings, and breaches of every number.
         They are the last part of crates/answer/stdin.
 
-    layout_cases.py damaged COUNT SEED <CASES
+    check_cases.py damaged COUNT SEED <CASES
         prints COUNT images, each one of CASES with a few words damaged. The
         same CASES, COUNT and SEED give the same images.
 """
 import random
 import sys
 
-from layout_reference import Image, layout, read_case, BadLine
+from check_reference import Image, layout, read_case, BadLine
 
 TOP = 2 ** 32 - 1  # the largest word
 
