@@ -5,15 +5,15 @@ ghost use mathlib.Core.Path.{_≡_};
 ghost use mathlib.Core.Bool.{true, _&&_};
 ghost use mathlib.Core.List.{[], _∷_};
 ghost use Prim.Native.Nat.{ℕ, suc, _+_, _≤_, _<_};
-ghost use lib.ListN.{length, getD, set};
+ghost use lib.ListN.{getD, set};
 ghost use lib.Dec.{eqb, leb};
 ghost use Rattle.words.specs.Types.{typeOf};
 ghost use Rattle.image.specs.declared.Kind.the-variants.{Cast, Var, Eq, Assign, Get, Set, Call};
 ghost use Rattle.image.specs.Numbers.{variables, mostArguments, mostClasses, highestName, writtenTags};
 ghost use Rattle.image.specs.Trailer.{classCount};
 ghost use Rattle.image.specs.Nodes.{namesHold, operands};
-ghost use Rattle.laws.specs.Trees.{operandCount};
 ghost use Rattle.image.specs.Layout.{Good};
+ghost use Rattle.laws.specs.Trees.{operandCount};
 ghost use Rattle.order.specs.Rules.{firstPlace};
 ghost use Rattle.rules.specs.Maps.{tabulate, from};
 ghost use Rattle.rules.specs.Numbers.{typingRule};
@@ -170,13 +170,8 @@ fn get_rule(ws: &[u32], l: Layout, n: usize, x: u32, y: u32, t: u32) -> Typed
     if t < FIRST_CLASS {
         return Typed::Not(n);
     }
-    match classes::look_up(
-        ws,
-        l,
-        Members::Fields,
-        (t - FIRST_CLASS) as usize,
-        x as usize,
-    ) {
+    let c = (t - FIRST_CLASS) as usize;
+    match classes::look_up(ws, l, Members::Fields, c, x as usize) {
         Seen::At(d, i) => decide(d == y as usize, n, image::field_word(ws, l, i, 2)),
         Seen::Nothing => Typed::Not(n),
     }
@@ -190,13 +185,8 @@ fn set_rule(ws: &[u32], l: Layout, n: usize, x: u32, y: u32, t: u32, u: u32) -> 
     if t < FIRST_CLASS {
         return Typed::Not(n);
     }
-    match classes::look_up(
-        ws,
-        l,
-        Members::Fields,
-        (t - FIRST_CLASS) as usize,
-        x as usize,
-    ) {
+    let c = (t - FIRST_CLASS) as usize;
+    match classes::look_up(ws, l, Members::Fields, c, x as usize) {
         Seen::At(d, i) => {
             let below = classes::is_subtype(ws, l, u, image::field_word(ws, l, i, 2));
             decide((d == y as usize) & below, n, u)
@@ -239,13 +229,8 @@ fn call_rule(ws: &[u32], l: Layout, n: usize, x: u32, y: u32, types: [u32; 9]) -
     if t < FIRST_CLASS {
         return Typed::Not(n);
     }
-    match classes::look_up(
-        ws,
-        l,
-        Members::Methods,
-        (t - FIRST_CLASS) as usize,
-        x as usize,
-    ) {
+    let c = (t - FIRST_CLASS) as usize;
+    match classes::look_up(ws, l, Members::Methods, c, x as usize) {
         Seen::At(_, i) => {
             let first = image::method_word(ws, l, i, 3) as usize;
             let count = image::method_word(ws, l, i, 4) as usize;
@@ -296,34 +281,19 @@ fn bound_by(k: Kind, x: u32, y: u32) -> Bound
     requires { ⌜ boundWord k x y ≤ 4 + mostClasses ⌝ }
     ensures { λ r. ⌜ (r .variable ≡ boundVar k x y) × (r .word ≡ boundWord k x y) ⌝ }
 {
-    let nothing = Bound {
-        variable: image::VARIABLES as usize,
-        word: 0,
-    };
     match k {
-        Kind::New => nothing,
-        Kind::Cast => nothing,
-        Kind::Value => nothing,
-        Kind::Var => nothing,
-        Kind::Add => nothing,
-        Kind::Eq => nothing,
-        Kind::Assign => nothing,
-        Kind::Get => nothing,
-        Kind::Set => nothing,
-        Kind::Call => nothing,
         Kind::Block => Bound {
             variable: x as usize,
             word: y + 1,
         },
-        Kind::Seq => nothing,
-        Kind::If => nothing,
-        Kind::While => nothing,
-        Kind::Throw => nothing,
         Kind::Try => Bound {
             variable: y as usize,
             word: FIRST_CLASS + 1 + x,
         },
-        Kind::Unknown => nothing,
+        _ => Bound {
+            variable: image::VARIABLES as usize,
+            word: 0,
+        },
     }
 }
 

@@ -1,183 +1,74 @@
--- `typing::bound_by` meets its contract.
+-- `typing::bound_by` meets its contract. The last arm is told the numbers of the kinds that reach it: no Block and no Try is among them.
+use Prim.Native.Nat.{ℕ}
+use Rattle.image.specs.declared.Kind.{Kind}
+use Rattle.image.specs.declared.Kind.the-variants.{New, Cast, Value as Literal, Var, Add, Eq, Assign, Get, Set, Call, Block, Seq, If, While, Throw, Try, Unknown}
+use Rattle.image.specs.Numbers.{variables}
+use Rattle.image.proofs.Kind as kind
 use Rattle.typing.proofs.bound_by.Statement.{statement}
 use Rattle.typing.specs.Env.{boundVar, boundWord}
 use borrow.Author.Needs.{needs}
-use mathlib.Core.Path.{refl}
+use denote.Enum.Declared.{tagOf}
+use mathlib.Core.List.{List, [], _∷_}
+use mathlib.Core.Path.{_≡_, refl}
 use native.Mathlib.Omega.{arith}
+use types.Run.{OneOf, miss}
 use Rattle.typing.proofs.bound_by.Tie as tie
 
-cast-t5 : tie.Need-cast-t5
-cast-t5 c = search needs
+abbrev others : List ℕ
+others = 0 ∷ 1 ∷ 2 ∷ 3 ∷ 4 ∷ 5 ∷ 6 ∷ 7 ∷ 8 ∷ 9 ∷ 11 ∷ 12 ∷ 13 ∷ 14 ∷ 16 ∷ []
+
+none-bound : (k : Kind) (x y : ℕ) → OneOf others (tagOf kind.the-type k) → (variables ≡ boundVar k x y) × (0 ≡ boundWord k x y)
+unfolding boundVar boundWord
+none-bound New x y h = (refl, refl)
+none-bound Cast x y h = (refl, refl)
+none-bound Literal x y h = (refl, refl)
+none-bound Var x y h = (refl, refl)
+none-bound Add x y h = (refl, refl)
+none-bound Eq x y h = (refl, refl)
+none-bound Assign x y h = (refl, refl)
+none-bound Get x y h = (refl, refl)
+none-bound Set x y h = (refl, refl)
+none-bound Call x y h = (refl, refl)
+none-bound Block x y h = absurd (miss others 10 tt h)
+none-bound Seq x y h = (refl, refl)
+none-bound If x y h = (refl, refl)
+none-bound While x y h = (refl, refl)
+none-bound Throw x y h = (refl, refl)
+none-bound Try x y h = absurd (miss others 15 tt h)
+none-bound Unknown x y h = (refl, refl)
 
 enum-told : tie.Need-enum-told
 enum-told c = search needs
 
+add-t6 : tie.Need-add-t6
+unfolding boundWord
+add-t6 c = let w = rw (c .enum-told .given .1) at (c .before .before .pre) in omega arith
+
 enum-told-2 : tie.Need-enum-told-2
 enum-told-2 c = search needs
 
-enum-told-3 : tie.Need-enum-told-3
-enum-told-3 c = search needs
-
-enum-told-4 : tie.Need-enum-told-4
-enum-told-4 c = search needs
-
-enum-told-5 : tie.Need-enum-told-5
-enum-told-5 c = search needs
-
-enum-told-6 : tie.Need-enum-told-6
-enum-told-6 c = search needs
-
-enum-told-7 : tie.Need-enum-told-7
-enum-told-7 c = search needs
-
-enum-told-8 : tie.Need-enum-told-8
-enum-told-8 c = search needs
-
-enum-told-9 : tie.Need-enum-told-9
-enum-told-9 c = search needs
-
-enum-told-10 : tie.Need-enum-told-10
-enum-told-10 c = search needs
-
-enum-told-11 : tie.Need-enum-told-11
-enum-told-11 c = search needs
-
 add-t8 : tie.Need-add-t8
+add-t8 c = search needs
+
+add-t9 : tie.Need-add-t9
 unfolding boundWord
-add-t8 c = let w = rw (c .enum-told11 .given .1) at (c .before .before .pre) in omega arith
+add-t9 c = let w = rw (c .enum-told2 .given .1) at (c .before .before .pre) in omega arith
 
-enum-told-12 : tie.Need-enum-told-12
-enum-told-12 c = search needs
-
-enum-told-13 : tie.Need-enum-told-13
-enum-told-13 c = search needs
-
-enum-told-14 : tie.Need-enum-told-14
-enum-told-14 c = search needs
-
-enum-told-15 : tie.Need-enum-told-15
-enum-told-15 c = search needs
-
-enum-told-16 : tie.Need-enum-told-16
-enum-told-16 c = search needs
-
-add-t10 : tie.Need-add-t10
-add-t10 c = search needs
-
-add-t11 : tie.Need-add-t11
-unfolding boundWord
-add-t11 c = let w = rw (c .enum-told16 .given .1) at (c .before .before .pre) in omega arith
-
-enum-told-17 : tie.Need-enum-told-17
-enum-told-17 c = search needs
+cast-t10 : tie.Need-cast-t10
+cast-t10 c = search needs
 
 returns : tie.Need-returns
 unfolding boundVar boundWord
-returns c = rw (c .enum-told .given .1) (refl, refl)
+returns c = rw (c .enum-told .given .1) (refl, omega arith)
 
 returns-2 : tie.Need-returns-2
 unfolding boundVar boundWord
-returns-2 c = rw (c .enum-told2 .given .1) (refl, refl)
+returns-2 c = rw (c .enum-told2 .given .1) (refl, omega arith)
 
 returns-3 : tie.Need-returns-3
-unfolding boundVar boundWord
-returns-3 c = rw (c .enum-told3 .given .1) (refl, refl)
-
-returns-4 : tie.Need-returns-4
-unfolding boundVar boundWord
-returns-4 c = rw (c .enum-told4 .given .1) (refl, refl)
-
-returns-5 : tie.Need-returns-5
-unfolding boundVar boundWord
-returns-5 c = rw (c .enum-told5 .given .1) (refl, refl)
-
-returns-6 : tie.Need-returns-6
-unfolding boundVar boundWord
-returns-6 c = rw (c .enum-told6 .given .1) (refl, refl)
-
-returns-7 : tie.Need-returns-7
-unfolding boundVar boundWord
-returns-7 c = rw (c .enum-told7 .given .1) (refl, refl)
-
-returns-8 : tie.Need-returns-8
-unfolding boundVar boundWord
-returns-8 c = rw (c .enum-told8 .given .1) (refl, refl)
-
-returns-9 : tie.Need-returns-9
-unfolding boundVar boundWord
-returns-9 c = rw (c .enum-told9 .given .1) (refl, refl)
-
-returns-10 : tie.Need-returns-10
-unfolding boundVar boundWord
-returns-10 c = rw (c .enum-told10 .given .1) (refl, refl)
-
-returns-11 : tie.Need-returns-11
-unfolding boundVar boundWord
-returns-11 c = rw (c .enum-told11 .given .1) (refl, omega arith)
-
-returns-12 : tie.Need-returns-12
-unfolding boundVar boundWord
-returns-12 c = rw (c .enum-told12 .given .1) (refl, refl)
-
-returns-13 : tie.Need-returns-13
-unfolding boundVar boundWord
-returns-13 c = rw (c .enum-told13 .given .1) (refl, refl)
-
-returns-14 : tie.Need-returns-14
-unfolding boundVar boundWord
-returns-14 c = rw (c .enum-told14 .given .1) (refl, refl)
-
-returns-15 : tie.Need-returns-15
-unfolding boundVar boundWord
-returns-15 c = rw (c .enum-told15 .given .1) (refl, refl)
-
-returns-16 : tie.Need-returns-16
-unfolding boundVar boundWord
-returns-16 c = rw (c .enum-told16 .given .1) (refl, omega arith)
-
-returns-17 : tie.Need-returns-17
-unfolding boundVar boundWord
-returns-17 c = rw (c .enum-told17 .given .1) (refl, refl)
+returns-3 c = none-bound (c .before .args .k) (c .before .args .x) (c .before .args .y) (c .match .keys3)
 
 pub bound-by-spec : {M : Type 1} → statement M
 bound-by-spec =
     tie.close
-    (tie.spec
-    cast-t5
-    enum-told
-    enum-told-2
-    enum-told-3
-    enum-told-4
-    enum-told-5
-    enum-told-6
-    enum-told-7
-    enum-told-8
-    enum-told-9
-    enum-told-10
-    enum-told-11
-    add-t8
-    enum-told-12
-    enum-told-13
-    enum-told-14
-    enum-told-15
-    enum-told-16
-    add-t10
-    add-t11
-    enum-told-17
-    returns
-    returns-2
-    returns-3
-    returns-4
-    returns-5
-    returns-6
-    returns-7
-    returns-8
-    returns-9
-    returns-10
-    returns-11
-    returns-12
-    returns-13
-    returns-14
-    returns-15
-    returns-16
-    returns-17)
+    (tie.spec enum-told add-t6 enum-told-2 add-t8 add-t9 cast-t10 returns returns-2 returns-3)

@@ -11,8 +11,8 @@ array-read-t c = search needs
 returns : tie.Need-returns
 returns c = call-none _ _ _ _ _ _ (c .if1 .taken)
 
-cast-look-up : tie.Need-cast-look-up
-cast-look-up c = omega (arith, c .before .before .pre .3 0)
+cast-c : tie.Need-cast-c
+cast-c c = omega (arith, c .before .before .pre .3 0)
 
 look-up-requires : tie.Need-look-up-requires
 look-up-requires c κs = (c .before .before .pre .0, omega (arith, c .before .before .pre .3 0), c .before .before .pre .1)
@@ -56,7 +56,7 @@ call-rule-spec =
     (tie.spec
     array-read-t
     returns
-    cast-look-up
+    cast-c
     look-up-requires
     enum-known-i
     method-word-requires

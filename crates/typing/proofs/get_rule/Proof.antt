@@ -8,8 +8,8 @@ use Rattle.typing.proofs.get_rule.Tie as tie
 returns : tie.Need-returns
 returns c = get-none _ _ _ _ _ _ (c .if1 .taken)
 
-cast-look-up : tie.Need-cast-look-up
-cast-look-up c = search needs
+cast-c : tie.Need-cast-c
+cast-c c = search needs
 
 look-up-requires : tie.Need-look-up-requires
 look-up-requires c κs = search needs
@@ -37,7 +37,7 @@ get-rule-spec =
     tie.close
     (tie.spec
     returns
-    cast-look-up
+    cast-c
     look-up-requires
     enum-known-d
     field-word-requires
