@@ -55,7 +55,10 @@ pub fn checked_answer(c: Checked) -> Answer
     ensures { λ r. ⌜ r ≡ checkedNumbers c ⌝ }
 {
     match c {
-        Checked::Accepted => Answer { number: 0, place: 0 },
+        Checked::Accepted => Answer {
+            number: 0,
+            place: 0,
+        },
         Checked::Layout(b) => image::breach_answer(b),
         Checked::Fields(p) => Answer {
             number: 10,

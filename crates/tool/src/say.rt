@@ -80,7 +80,9 @@ fn rule(n: u64) {
         9 => text(
             b" is broken: bodies fill the nodes in the order of the methods, and main, counted after the last method, ends at the last node",
         ),
-        10 => text(b" has too many fields: a class has at most 15, with those of the classes above it"),
+        10 => text(
+            b" has too many fields: a class has at most 15, with those of the classes above it",
+        ),
         11 => text(
             b" overrides badly: it has as many arguments as the method above it, takes at least what that one takes, and returns no more than that one returns",
         ),
