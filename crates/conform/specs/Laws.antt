@@ -1,12 +1,12 @@
 -- Laws of 17 and 18, and of rules that are asked after others.
 use mathlib.Core.Path.{_≡_, refl, sym, _∙_, ap}
-use mathlib.Core.Bool.{Bool, true, false, cond, _&&_}
+use mathlib.Core.Bool.{Bool, true, false, cond}
 use mathlib.Core.List.{List, [], _∷_, _++_}
-use Prim.Native.Nat.{ℕ, zero, suc, _+_, _*_, _-_, _/_, _%_, _≤_, _<_}
+use Prim.Native.Nat.{ℕ, zero, suc, _+_, _*_, _-_, _≤_, _<_}
 use native.Mathlib.Omega.{arith}
 use lib.Dec.{eqb, leb, ltb}
 use lib.ListN.{length, getD}
-use borrow.Author.Tests.{lt-ltb, le-ltb, ltb-true}
+use borrow.Author.Tests.{lt-ltb, le-ltb}
 use Rattle.order.specs.declared.Answer.{Answer}
 use Rattle.order.specs.declared.Found.{Found}
 use Rattle.order.specs.declared.Found.the-variants.{At, Nowhere}
@@ -14,9 +14,8 @@ use Rattle.order.specs.Rules.{Rule, scan, firstPlace, accepted, orElse, answerO
 use Rattle.order.specs.Lowest.{Rising, held}
 use Rattle.words.specs.declared.Value.{Value}
 use Rattle.words.specs.declared.Value.the-variants.{Null, Intg, Addr}
-use Rattle.words.specs.declared.Decoded.{Decoded}
-use Rattle.words.specs.declared.Decoded.the-variants.{Is, Not}
-use Rattle.words.specs.declared.Ty.the-variants.{Void, Class}
+use Rattle.words.specs.declared.Decoded.the-variants.{Is}
+use Rattle.words.specs.declared.Ty.the-variants.{Void}
 use Rattle.words.specs.Types.{typeOf, typeWord, isType}
 use Rattle.words.specs.TypeLaws.{type-word-of, type-class, is-type}
 use Rattle.words.specs.Value.{valueOf, addresses}
@@ -28,10 +27,10 @@ use Rattle.image.specs.declared.Breach.the-variants.{Format, Trailer, Ceiling, 
 use Rattle.image.specs.Layout.{breachNumbers, tested, formatRule, trailerRule, ceilingRule, classRule, fieldRule, methodRule, typeRule, nodeRule, bodyRule, recordRules, layoutRules}
 use Rattle.rules.specs.Trees.{written}
 use Rattle.rules.specs.Program.{Program, program, typesFrom, inputTypes}
-use Rattle.rules.specs.Classes.{subtype, sameType, hasFields}
+use Rattle.rules.specs.Classes.{subtype, hasFields}
 use Rattle.rules.specs.Heap.{Heap, slotWords, heapOf}
 use Rattle.rules.specs.Conform.{slotConforms, conforms}
-use Rattle.rules.specs.Numbers.{fewestSlots, fieldType, heapLengthHolds, heapLengthRule, heapWordRule, fieldsRule, inputTypeRule, slotWordConforms, conformRules}
+use Rattle.rules.specs.Numbers.{fewestSlots, fieldType, heapLengthHolds, heapLengthRule, heapWordRule, fieldsRule, slotWordConforms, conformRules}
 use Rattle.laws.specs.Maps.{getD-tabulate}
 use Rattle.laws.specs.Heap.{Words, words, look-free, look-obj, class-known}
 use Rattle.heap.specs.Rows.{rowWords, Rows}

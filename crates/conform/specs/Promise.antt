@@ -1,12 +1,12 @@
 -- The conformity check's promise, for the reader: its answer is the lowest breach of 1 to 10 and 14 to 18, or 0 where there is
 -- none; and no other answer is.
-use mathlib.Core.Path.{_≡_, refl, sym, _∙_, ap}
-use mathlib.Core.List.{List, [], _∷_, _++_}
+use mathlib.Core.Path.{_≡_, sym, _∙_}
+use mathlib.Core.List.{List}
 use mathlib.Core.Logic.{_↔_}
-use Prim.Native.Nat.{ℕ, suc, _<_, _≤_}
+use Prim.Native.Nat.{ℕ}
 use native.Mathlib.Omega.{arith}
 use Rattle.order.specs.declared.Answer.{Answer}
-use Rattle.order.specs.Rules.{Rule, answerOf, accepted, Tells, Sound}
+use Rattle.order.specs.Rules.{answerOf, accepted, Tells, Sound}
 use Rattle.order.specs.Lowest.{Rising, only, accepts}
 use Rattle.image.specs.Layout.{formatRule, trailerRule, ceilingRule, classRule, fieldRule, methodRule, typeRule, nodeRule, bodyRule, recordRules, layoutRules, tested}
 use Rattle.rules.specs.Numbers.{fieldsRule, heapLengthRule, heapWordRule, inputRule, heapRule, inputTypeRule, conformRules}

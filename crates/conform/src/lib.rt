@@ -1,9 +1,9 @@
 // The conformity check: layout, fields, heap and inputs, numbers 0 to 10 and 14 to 18.
 ghost use mathlib.Core.Path.{_≡_};
 ghost use mathlib.Core.Bool.{true, cond};
-ghost use Prim.Native.Nat.{suc, _≤_, _<_};
+ghost use Prim.Native.Nat.{suc, _<_};
 ghost use lib.Dec.{eqb, ltb};
-ghost use lib.ListN.{length, getD};
+ghost use lib.ListN.{length};
 ghost use Rattle.order.specs.Rules.{firstPlace, answerOf};
 ghost use Rattle.order.specs.declared.Found.the-variants.{Nowhere};
 ghost use Rattle.words.specs.declared.Value.the-variants.{Addr};

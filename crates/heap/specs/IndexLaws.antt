@@ -2,14 +2,12 @@
 use mathlib.Core.Path.{_≡_, refl, sym, _∙_, ap}
 use mathlib.Core.Bool.{Bool, true, false, cond, _&&_}
 use mathlib.Core.Option.{Option, none, some}
-use mathlib.Core.List.{List, [], _∷_, _++_, append-nil, append-assoc}
-use mathlib.Core.Logic.{_⊎_, inl, inr, ⊎-elim}
-use Prim.Native.Nat.{ℕ, zero, suc, _+_, _*_, _-_, _≤_, _<_}
+use mathlib.Core.List.{List, [], _∷_, _++_, append-assoc}
+use Prim.Native.Nat.{ℕ, zero, suc, _+_, _-_, _≤_, _<_}
 use native.Mathlib.Omega.{arith}
 use lib.Dec.{eqb}
 use lib.ListN.{length, getD, length-append}
-use borrow.Author.Tests.{eqb-true, eqb-false, eq-eqb, ne-eqb}
-use Rattle.order.specs.declared.Found.the-variants.{At, Nowhere}
+use borrow.Author.Tests.{eqb-true, eq-eqb, ne-eqb}
 use Rattle.image.specs.Laws.{and-left, and-right}
 use Rattle.image.specs.Numbers.{mostFields}
 use Rattle.rules.specs.Numbers.{mostFieldsAbove}
@@ -21,10 +19,9 @@ use Rattle.rules.specs.Maps.{tabulate}
 use Rattle.rules.specs.Program.{Field, Program, fieldAt, program}
 use Rattle.rules.specs.Classes.{orElse, super, above, declaredIn, seesFieldIn, seesField, own, hasFields, indexFrom, fieldIndex}
 use Rattle.laws.specs.Classes.{Lower, class-ind, hasFields-zero, hasFields-suc, hasFields-on, seesField-here}
-use Rattle.laws.specs.Heap.{place}
 use Rattle.classes.specs.declared.Members.the-variants.{Fields}
 use Rattle.classes.specs.Sees.{FieldAt}
-use Rattle.classes.specs.Keys.{names, keyOf, sizeOf}
+use Rattle.classes.specs.Keys.{keyOf, sizeOf}
 use Rattle.classes.specs.Counts.{ownCount}
 use Rattle.classes.specs.Totals.{count-le}
 use Rattle.classes.specs.Search.{rising}
@@ -32,7 +29,7 @@ use Rattle.classes.specs.Tables.{keys-rise}
 use Rattle.classes.specs.Types.{low, super-is, super-below}
 use Rattle.classes.specs.Records.{field-open}
 use Rattle.heap.specs.Rows.{Sizes}
-use Rattle.heap.specs.RowLaws.{class-rises, own-hit, own-before, own-le}
+use Rattle.heap.specs.RowLaws.{class-rises, own-hit, own-before}
 
 -- what a class declares and sees has the name
 pub declared-is : (P : Program) (L : List Field) (c f : ℕ) (r : Field) → declaredIn P L c f ≡ some r → (r .owner ≡ c) × (r .name ≡ f)

@@ -1,21 +1,19 @@
 -- Laws of the table of fields: a class's row is its superclass's row, and then the records that the class declares.
 use mathlib.Core.Path.{_≡_, refl, sym, _∙_, ap}
 use mathlib.Core.Bool.{Bool, true, false, cond, _&&_, _||_}
-use mathlib.Core.List.{List, [], _∷_, _++_, append-nil, append-assoc, map}
-use mathlib.Core.Logic.{_⊎_, inl, inr, ⊎-elim}
+use mathlib.Core.List.{List, [], _∷_, _++_, append-nil, append-assoc}
+use mathlib.Core.Logic.{⊎-elim}
 use Prim.Native.Nat.{ℕ, zero, suc, _+_, _*_, _-_, _≤_, _<_}
 use native.Mathlib.Omega.{arith}
-use native.Mathlib.Numerals.{add-one}
-use lib.Dec.{eqb, leb, ltb}
+use lib.Dec.{eqb, ltb}
 use lib.ListN.{length, getD, set, length-append, length-set}
 use lib.Seq.{getD-set-same, getD-set-other}
 use borrow.Author.Tests.{eq-eqb, ne-eqb, leb-true, ltb-true, eqb-true}
 use Rattle.order.specs.Rules.{firstPlace}
 use Rattle.order.specs.Lowest.{held}
 use Rattle.order.specs.declared.Found.the-variants.{Nowhere}
-use Rattle.words.specs.declared.Ty.{Ty}
 use Rattle.words.specs.Types.{typeOf}
-use Rattle.image.specs.Numbers.{mostClasses, firstUserClass}
+use Rattle.image.specs.Numbers.{mostClasses}
 use Rattle.image.specs.Trailer.{classCount, fieldCount}
 use Rattle.image.specs.Records.{superclass, fieldWord, rises}
 use Rattle.image.specs.Layout.{Good}
@@ -24,13 +22,12 @@ use Rattle.rules.specs.Maps.{tabulate}
 use Rattle.rules.specs.Program.{Field, Program, fieldAt, program}
 use Rattle.rules.specs.Classes.{own, hasFields}
 use Rattle.rules.specs.Numbers.{mostFieldsAbove, fieldsRule, fieldType}
-use Rattle.classes.specs.Totals.{enough-classes}
 use Rattle.laws.specs.Maps.{tabulate-append, tabulate-last}
 use Rattle.laws.specs.Classes.{hasFields-zero, hasFields-on}
 use Rattle.classes.specs.Records.{field-open, field-rises}
 use Rattle.classes.specs.Types.{low, super-is, super-below}
 use Rattle.classes.specs.Search.{lt-or-ge}
-use Rattle.heap.specs.Rows.{rowWords, Sizes, Row, Rows, Upto, NoneBelow, Owned, Copied, OwnFields, soFar, Part}
+use Rattle.heap.specs.Rows.{rowWords, Row, Rows, Upto, NoneBelow, Owned, Copied, OwnFields, soFar, Part}
 
 -- The fields that a class declares, by parts of the table.
 module _ (P : Program) (c : ℕ) where

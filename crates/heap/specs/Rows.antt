@@ -1,7 +1,7 @@
 -- A table of the fields of every class, in heap order: how many a class has, and the type word of each.
 use mathlib.Core.Path.{_≡_}
 use mathlib.Core.List.{List, _++_}
-use Prim.Native.Nat.{ℕ, suc, _+_, _*_, _≤_, _<_}
+use Prim.Native.Nat.{ℕ, _+_, _*_, _≤_, _<_}
 use lib.ListN.{length, getD}
 use Rattle.words.specs.Types.{typeOf}
 use Rattle.image.specs.Numbers.{mostClasses}

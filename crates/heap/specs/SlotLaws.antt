@@ -1,16 +1,14 @@
 -- Laws of slots: the lowest free one from a start, and default words.
 use mathlib.Core.Path.{_≡_, refl, sym, _∙_, ap}
-use mathlib.Core.Bool.{Bool, true, false, cond, not}
+use mathlib.Core.Bool.{Bool, true, false}
 use mathlib.Core.List.{List}
 use mathlib.Core.Logic.{_⊎_, inl, inr}
-use Prim.Native.Nat.{ℕ, zero, suc, _+_, _*_, _-_, _/_, _%_, _≤_, _<_}
+use Prim.Native.Nat.{ℕ, zero, suc, _+_, _*_, _-_, _/_, _≤_, _<_}
 use native.Mathlib.Omega.{arith}
-use lib.Dec.{eqb}
 use lib.ListN.{length, getD, List·getD-eq-default}
 use borrow.Author.Tests.{eq-eqb, ne-eqb}
 use Rattle.order.specs.Rules.{scan}
 use Rattle.order.specs.declared.Found.the-variants.{At, Nowhere}
-use Rattle.words.specs.declared.Ty.the-variants.{Void, Boolean, Integer, NT, Class}
 use Rattle.words.specs.Types.{typeOf}
 use Rattle.words.specs.Value.{wordOf}
 use Rattle.rules.specs.Program.{Program}

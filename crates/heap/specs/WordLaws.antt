@@ -1,8 +1,8 @@
 -- Laws of 14, 15 and 16: a scan whose earlier places all held, a slot's word by cases, and the inputs.
-use mathlib.Core.Path.{_≡_, refl, sym, _∙_, ap}
-use mathlib.Core.Bool.{Bool, true, false, cond, _&&_}
+use mathlib.Core.Path.{_≡_, refl}
+use mathlib.Core.Bool.{Bool, true, false, cond}
 use mathlib.Core.List.{List}
-use mathlib.Core.Logic.{_⊎_, inl, inr, ⊎-elim}
+use mathlib.Core.Logic.{⊎-elim}
 use Prim.Native.Nat.{ℕ, zero, suc, _+_, _*_, _-_, _/_, _%_, _≤_, _<_, max}
 use native.Mathlib.Omega.{arith}
 use lib.Dec.{eqb, leb, ltb}
@@ -13,7 +13,6 @@ use Rattle.order.specs.Scan.{Still, start, on, hit, none}
 use Rattle.order.specs.Lowest.{held}
 use Rattle.order.specs.declared.Found.the-variants.{At, Nowhere}
 use Rattle.words.specs.Value.{valueOf, isIs}
-use Rattle.image.specs.Laws.{and-left}
 use Rattle.image.specs.Trailer.{classCount, inputCount}
 use Rattle.rules.specs.Program.{Program, program}
 use Rattle.rules.specs.Classes.{hasFields}

@@ -1,23 +1,23 @@
 // The heap: a table of every class's fields, readings of slots, and the rules 14, 15 and 16.
-ghost use Prim.Native.Nat.{_+_, _*_, _-_, _/_, _%_, _≤_, _<_};
 ghost use mathlib.Core.Path.{_≡_};
 ghost use mathlib.Core.Bool.{true, cond};
+ghost use Prim.Native.Nat.{_+_, _*_, _-_, _/_, _%_, _≤_, _<_};
 ghost use lib.Dec.{ltb};
 ghost use lib.ListN.{length, getD};
 ghost use Rattle.order.specs.Rules.{scan, firstPlace};
 ghost use Rattle.order.specs.declared.Found.the-variants.{Nowhere};
+ghost use Rattle.words.specs.Types.{typeOf};
+ghost use Rattle.words.specs.Value.{valueOf, wordOf, isIs, addresses};
 ghost use Rattle.image.specs.Numbers.{highestName, mostClasses};
 ghost use Rattle.image.specs.Records.{fieldWord};
 ghost use Rattle.image.specs.Trailer.{classCount};
-ghost use Rattle.image.specs.Layout.{Lay, Good};
-ghost use Rattle.words.specs.Types.{typeOf};
-ghost use Rattle.words.specs.Value.{valueOf, wordOf, isIs, addresses};
+ghost use Rattle.image.specs.Layout.{Good};
 ghost use Rattle.rules.specs.Maps.{tabulate};
 ghost use Rattle.rules.specs.Program.{fieldAt, program};
 ghost use Rattle.rules.specs.Classes.{own, hasFields, fieldIndex};
 ghost use Rattle.rules.specs.Heap.{default, slotWords};
-ghost use Rattle.laws.specs.Heap.{place};
 ghost use Rattle.rules.specs.Numbers.{mostFieldsAbove, fieldsRule, slotFirst, heapLengthHolds, heapWordRule, inputRule};
+ghost use Rattle.laws.specs.Heap.{place};
 ghost use Rattle.heap.specs.Rows.{rowWords, Sizes, Rows, Upto, Copied, NoneBelow, OwnFields};
 ghost use Rattle.heap.specs.Slots.{takenAt};
 use classes::Members;
