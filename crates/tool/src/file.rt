@@ -1,27 +1,114 @@
-// An image out of a file.
-ghost use Prim.Native.Nat.{_≤_};
+// The questions whose words come out of files.
+ghost use mathlib.Core.Path.{_≡_};
+ghost use Prim.Native.Nat.{_<_};
 ghost use lib.ListN.{length};
 ghost use Rattle.text.specs.Words.{Counts};
 use crate::say;
 
-const MOST_BYTES: usize = 524288;
-
-// One piece of a file: its bytes, how many words of it are stored, and whether reading failed.
-struct Piece {
-    bytes: usize,
-    words: usize,
+// How many bytes or words are at the start of a buffer, and whether an error was written instead.
+struct Taken {
+    count: usize,
     has_failed: bool,
 }
 
 pub fn check(path: &[u8]) {
+    let mut image = [0u32; 131072];
+    let words = take_image(path, &mut image);
+    if words.has_failed {
+        return;
+    }
+    say::answer(image_check::check_answer(&image[..words.count]));
+}
+
+pub fn conform(image_path: &[u8], heap_path: &[u8], inputs_path: &[u8]) {
+    let mut image = [0u32; 131072];
+    let words = take_image(image_path, &mut image);
+    if words.has_failed {
+        return;
+    }
+    conform_image(&image[..words.count], heap_path, inputs_path);
+}
+
+fn conform_image(image: &[u32], heap_path: &[u8], inputs_path: &[u8]) {
+    let mut heap = [0u64; 131072];
+    let words = take_heap(heap_path, &mut heap);
+    if words.has_failed {
+        return;
+    }
+    let mut inputs = [0u64; 1024];
+    let values = take_inputs(inputs_path, &mut inputs);
+    if values.has_failed {
+        return;
+    }
+    say::conformity(conform::conformity(image, &heap[..words.count], &inputs[..values.count]));
+}
+
+// The bytes of each file. There is room for one more than it may have, so that a longer file shows.
+// The contracts spare the prover to count the zeros.
+fn image_space() -> [u8; 524289]
+    ensures { λ r. ⌜ 524289 ≡ length r ⌝ }
+{
+    [0; 524289]
+}
+
+fn heap_space() -> [u8; 1048577]
+    ensures { λ r. ⌜ 1048577 ≡ length r ⌝ }
+{
+    [0; 1048577]
+}
+
+fn take_image(path: &[u8], words: &mut [u32]) -> Taken
+    ensures { λ r. ⌜ Counts (r .count) (now (words .exit)) ⌝ }
+{
+    let mut space = image_space();
+    let bytes = take(path, &mut space, 4);
+    Taken {
+        count: text::words32(&space[..bytes.count], words),
+        has_failed: bytes.has_failed,
+    }
+}
+
+fn take_heap(path: &[u8], words: &mut [u64]) -> Taken
+    ensures { λ r. ⌜ Counts (r .count) (now (words .exit)) ⌝ }
+{
+    let mut space = heap_space();
+    let bytes = take(path, &mut space, 8);
+    Taken {
+        count: text::words64(&space[..bytes.count], words),
+        has_failed: bytes.has_failed,
+    }
+}
+
+fn take_inputs(path: &[u8], words: &mut [u64]) -> Taken
+    ensures { λ r. ⌜ Counts (r .count) (now (words .exit)) ⌝ }
+{
+    let mut space = [0u8; 8193];
+    let bytes = take(path, &mut space, 8);
+    Taken {
+        count: text::words64(&space[..bytes.count], words),
+        has_failed: bytes.has_failed,
+    }
+}
+
+// The bytes of a file of words of so many bytes.
+fn take(path: &[u8], space: &mut [u8], width: usize) -> Taken
+    requires { ⌜ 0 < width ⌝ }
+    ensures { λ r. ⌜ Counts (r .count) (now (space .exit)) ⌝ }
+{
     let fd = os::open_read(path);
     if fd < 0 {
         not_opened(path, os::errno());
-        return;
+        return Taken {
+            count: 0,
+            has_failed: true,
+        };
     }
-    let mut words = [0u32; 131072];
-    check_open(fd, path, &mut words);
+    let bytes = read(fd, space);
     libc::close(fd);
+    Taken {
+        count: bytes.count,
+        has_failed: !is_whole(path, bytes, space.len(), width),
+    }
 }
 
 fn not_opened(path: &[u8], errno: i32) {
@@ -36,62 +123,32 @@ fn not_opened(path: &[u8], errno: i32) {
     say::error(path, b": the file cannot be opened");
 }
 
-fn check_open(fd: i32, path: &[u8], words: &mut [u32]) {
-    let all = read(fd, words);
-    let n = all.words;
-    if all.has_failed {
-        say::error(path, b": the file cannot be read");
-    } else if all.bytes > MOST_BYTES {
-        say::error(path, b": the file is longer than 131072 words of 4 bytes");
-    } else if all.bytes % 4 != 0 {
-        say::error(path, b": the length is no multiple of 4 bytes");
-    } else {
-        say::answer(image_check::check_answer(&words[..n]));
-    }
-}
-
-// The whole file. Nine pieces are one more than fill the words, so that a longer file shows.
-fn read(fd: i32, words: &mut [u32]) -> Piece
-    ensures { λ r. ⌜ Counts (r .words) (now (words .exit)) ⌝ }
+// What does not fill the space ends the file or tells of a failure: one more read shows which.
+fn read(fd: i32, space: &mut [u8]) -> Taken
+    ensures { λ r. ⌜ Counts (r .count) (now (space .exit)) ⌝ }
 {
-    let mut bytes = 0;
-    let mut at = 0;
-    let mut has_failed = false;
-    let mut turns = 9;
-    while turns > 0 {
-        let piece = read_piece(fd, &mut words[at..]);
-        bytes += piece.bytes;
-        at += piece.words;
-        has_failed = piece.has_failed;
-        turns = left(turns - 1, piece.bytes);
-    }
-    Piece {
-        bytes,
-        words: at,
-        has_failed,
-    }
-}
-
-// A piece that is not full is the last one.
-fn left(turns: usize, bytes: usize) -> usize
-    ensures { λ r. ⌜ r ≤ turns ⌝ }
-{
-    if bytes < 65536 { 0 } else { turns }
-}
-
-// One piece, into what is left of the words. A short piece ends the file or tells of a failure: one
-// more read shows which.
-fn read_piece(fd: i32, words: &mut [u32]) -> Piece
-    ensures { λ r. ⌜ (r .bytes ≤ 65536) × (r .words ≤ length (now (words .entry))) ⌝ }
-{
-    let mut space = io::large_buffer();
-    let bytes = io::read_full(fd, &mut space);
-    let stored = text::words32(&space[..bytes], words);
+    let count = io::read_full(fd, space);
     let mut probe = [0u8; 1];
-    let has_failed = bytes < 65536 && libc::read(fd, &mut probe) < 0;
-    Piece {
-        bytes,
-        words: stored,
-        has_failed,
+    Taken {
+        count,
+        has_failed: count < space.len() && libc::read(fd, &mut probe) < 0,
     }
+}
+
+fn is_whole(path: &[u8], bytes: Taken, room: usize, width: usize) -> bool
+    requires { ⌜ 0 < width ⌝ }
+{
+    if bytes.has_failed {
+        say::error(path, b": the file cannot be read");
+        return false;
+    }
+    if bytes.count == room {
+        say::too_long(path, room / width, width);
+        return false;
+    }
+    if bytes.count % width != 0 {
+        say::no_multiple(path, width);
+        return false;
+    }
+    true
 }

@@ -11,32 +11,72 @@ pub fn number(n: u64) {
 }
 
 pub fn usage() {
-    text(b"error: the arguments are: check FILE, or demo\n");
+    text(b"error: the arguments are: check FILE, or conform IMAGE HEAP INPUTS, or demo\n");
 }
 
-// A file that gives no image.
+// A file that gives no words.
 pub fn error(path: &[u8], what: &[u8]) {
-    text(b"error: ");
-    text(path);
+    file(path);
     text(what);
     text(b"\n");
 }
 
+pub fn too_long(path: &[u8], words: usize, width: usize) {
+    file(path);
+    text(b": the file is longer than ");
+    number(words as u64);
+    text(b" words of ");
+    bytes(width);
+}
+
+pub fn no_multiple(path: &[u8], width: usize) {
+    file(path);
+    text(b": the length is no multiple of ");
+    bytes(width);
+}
+
+fn file(path: &[u8]) {
+    text(b"error: ");
+    text(path);
+}
+
+fn bytes(width: usize) {
+    number(width as u64);
+    text(b" bytes\n");
+}
+
 pub fn answer(a: Answer) {
+    numbers(a);
+    meaning(a, b"the image is accepted");
+}
+
+pub fn conformity(a: Answer) {
+    numbers(a);
+    meaning(a, b"the heap and the inputs conform to the image");
+}
+
+fn numbers(a: Answer) {
     text(b"number ");
     number(a.number);
     text(b" place ");
     number(a.place);
     text(b"\n");
-    subject(a.number, a.place);
-    rule(a.number);
+}
+
+// One line. What 0 means depends on the question.
+fn meaning(a: Answer, good: &[u8]) {
+    if a.number == 0 {
+        text(good);
+    } else {
+        subject(a.number, a.place);
+        rule(a.number);
+    }
     text(b"\n");
 }
 
 // The table of the numbers has two columns. The first: of what the place is.
 fn subject(n: u64, place: u64) {
     match n {
-        0 => text(b"the image is accepted"),
         1 => text(b"this is no image: "),
         2 | 3 => at(b"trailer word ", place),
         4 => at(b"class record ", place),
@@ -48,6 +88,9 @@ fn subject(n: u64, place: u64) {
         10 => at(b"class ", place),
         11 => at(b"method ", place),
         12 | 13 => at(b"node ", place),
+        14 => text(b"the heap's length"),
+        15 | 17 => at(b"heap word ", place),
+        16 | 18 => at(b"input ", place),
         _ => text(b"this number has no meaning here"),
     }
 }
@@ -90,6 +133,17 @@ fn rule(n: u64) {
             b" has no type here, or is a method's last node and its type does not fit the method's result",
         ),
         13 => text(b" reads a variable that is not surely set"),
+        14 => text(b" is broken: a heap is slots of 16 words, 3 to 4096 of them"),
+        15 => text(
+            b" is broken: a slot's first word is 0, or 1 plus the number of a class, then come the values of its fields, those of the classes above it first, and all else is 0",
+        ),
+        16 => text(
+            b" is broken, missing or one too many: there are as many inputs as main takes, and each is a value",
+        ),
+        17 => text(
+            b" does not conform: slots 0, 1 and 2 hold objects of classes 1, 2 and 3, and the value of a field is one of the field's type",
+        ),
+        18 => text(b" does not conform: its value is one of the type that main declares for it"),
         _ => {}
     }
 }

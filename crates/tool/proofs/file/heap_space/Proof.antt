@@ -1,0 +1,15 @@
+-- `tool::file::heap_space` is as long as it says. The law counts the zeros, since to unfold so many is too deep. Assumes nothing.
+use mathlib.Core.Path.{_≡_, sym}
+use Prim.Native.Nat.{ℕ}
+use lib.ListN.{length, replicate, length-replicate}
+use Rattle.tool.proofs.file.heap_space.Statement.{statement}
+use Rattle.tool.proofs.file.heap_space.Tie as tie
+
+zeros : (n : ℕ) → n ≡ length {A = ℕ} (replicate n 0)
+zeros n = sym (length-replicate n 0)
+
+returns : tie.Need-returns
+returns c = zeros 1048577
+
+pub heap-space-spec : {M : Type 1} → statement M
+heap-space-spec = tie.close (tie.spec returns)
