@@ -1,5 +1,5 @@
 #!/usr/bin/env python3
-"""Cases for the layout of an image, in the form that check_reference.py reads.
+"""Cases for the checks of an image, in the form that check_reference.py reads.
 
     check_cases.py extra
         prints the hand-made cases: the ceilings, and breaches of every number.
@@ -484,6 +484,9 @@ def pairs():
 
 # ---- lines that are no cases, and lines that only look odd
 
+SMALLEST = b"0 0 0 0 2 1 3 5 16 12 12 12 12 0 0 1"
+SYSTEM = b"2" + b" 0" * 15 + b" 3" + b" 0" * 15 + b" 4" + b" 0" * 15
+
 ODD_LINES = [
     b"check tabs_and_spaces\t|\t  0 0 0 0  2 1 3 5\t16 12 12 12 12 0 0 1  ",
     b"check carriage_return | 0 0 0 0 2 1 3 5 16 12 12 12 12 0 0 1\r",
@@ -510,6 +513,27 @@ ODD_LINES = [
     b"chec a | 1",
     b"Check a | 1",
     b"run a | 1",
+    b"conform no_blanks_at_the_bar|" + SMALLEST + b" |" + SYSTEM + b" |",
+    b"conform tabs\t|\t" + SMALLEST + b"\t|\t" + SYSTEM + b"\t|\t\r",
+    b"conform empty_parts | | |",
+    b"conform empty_parts_without_blanks |||",
+    b"conform empty_heap | " + SMALLEST + b" | | ",
+    b"conform largest_heap_word | " + SMALLEST + b" | " + SYSTEM[:-1] + b"18446744073709551615 |",
+    b"conform image_word_too_large | 1 4294967296 | 1 | 2",
+    b"conform heap_word_too_large | 1 | 1 18446744073709551616 | 2",
+    b"conform heap_word_far_too_large | 1 | 1 99999999999999999999 | 2",
+    b"conform heap_letters | 1 | 2 3x | 4",
+    b"conform input_letters | 1 | 2 3 | 4 x",
+    b"conform third_bar | 1 | 2 | 3 | 4",
+    b"conform no_inputs | 1 | 2",
+    b"conform no_heap | 1",
+    b"conform no_bar 1",
+    b"conform | 1 | 2 | 3",
+    b"conform",
+    b"confor a | 1 | 2 | 3",
+    b"conforms a | 1 | 2 | 3",
+    b"coeck a | 1",
+    b"chnform a | 1 | 2 | 3",
     b"| 1 2",
     b"check the_next_line_is_read_as_ever | 0 0 0 0 2 1 3 5 16 12 12 12 12 0 0 1",
 ]
@@ -517,6 +541,19 @@ ODD_LINES = [
 
 def print_case(name, words):
     sys.stdout.buffer.write(b"check %s | %s\n" % (name.encode(), b" ".join(b"%d" % w for w in words)))
+
+
+def print_heap(name, heap):
+    """A heap of the smallest image, which takes no inputs."""
+    sys.stdout.buffer.write(b"conform %s | %s | %s |\n" % (name.encode(), SMALLEST, b" ".join(b"%d" % w for w in heap)))
+
+
+def heap_lengths():
+    """The system's objects in heaps of every length that is near a limit."""
+    for slots in (0, 1, 2, 3, 4, 4095, 4096, 4097):
+        heap = [w for a in range(slots) for w in [a + 2 if a < 3 else 0] + [0] * 15]
+        print_heap("slots_%d" % slots, heap)
+        print_heap("slots_%d_and_a_word" % slots, heap + [0])
 
 
 def extra():
@@ -528,6 +565,7 @@ def extra():
             assert name not in seen, name
             seen.add(name)
             print_case(name, words)
+    heap_lengths()
     for line in ODD_LINES:
         sys.stdout.buffer.write(line + b"\n")
 

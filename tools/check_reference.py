@@ -1,9 +1,10 @@
 #!/usr/bin/env python3
-"""The image check, numbers 1 to 13, written down a second time to compare with.
+"""The image check and the conformity check, written down a second time to compare with.
 
 Reads cases on standard input, one a line:
 
     check NAME | the image's words in decimal, separated by blanks
+    conform NAME | the image's words | the heap's words | the inputs
 
 and prints `NAME number place` for each, or `line N: what is wrong` for a line
 that is no such case. An empty line is passed over.
@@ -12,6 +13,7 @@ This file follows the written rules and nothing else, in their order, as
 plainly as it can. It is slow on purpose: each number is one function that
 lists every breach of it, and the answer is the lowest of them.
 """
+import re
 import sys
 import threading
 
@@ -22,6 +24,7 @@ MOST_INPUTS = 8
 LAST_NAME = 65535
 LAST_VARIABLE = 63
 MOST_WORDS = 131072
+MOST_SLOTS = 4096
 LONGEST_NAME = 64
 
 
@@ -417,6 +420,87 @@ def check(words):
     return 0, 0
 
 
+def is_value_word(word):
+    """A value that may stand in a heap: one of a program, or an address."""
+    tag, payload = word >> 32, word % 2 ** 32
+    return is_value(tag, payload) or tag == 4 and payload < MOST_SLOTS
+
+
+def fields_of(image, c):
+    """The types of an object's fields, those of the highest class first."""
+    return [record[2] for d in reversed(above(image, c)) for record in image.fields if record[0] == d]
+
+
+def is_of(image, heap, word, t):
+    """Whether the value of a word conforms to a type."""
+    tag, payload = word >> 32, word % 2 ** 32
+    if tag == 4:
+        first = heap[16 * payload] if 16 * payload < len(heap) else 0
+        return first != 0 and is_subtype(image, 4 + first - 1, t)
+    return is_subtype(image, (0, NULL_TYPE, 1, 2)[tag], t)
+
+
+def breaches_14(image, heap, inputs):
+    if len(heap) % 16 != 0 or not 3 <= len(heap) // 16 <= MOST_SLOTS:
+        yield 0
+
+
+def breaches_15(image, heap, inputs):
+    for a in range(0, len(heap), 16):
+        first = heap[a]
+        if first > len(image.classes):
+            yield a
+        if not 1 <= first <= len(image.classes):
+            count = 0
+        else:
+            count = len(fields_of(image, first - 1))
+        for k in range(1, 16):
+            if not (is_value_word(heap[a + k]) if k <= count else heap[a + k] == 0):
+                yield a + k
+
+
+def breaches_16(image, heap, inputs):
+    if len(inputs) != image.inputs:
+        yield image.inputs
+    for i, word in enumerate(inputs):
+        if not is_value_word(word):
+            yield i
+
+
+def breaches_17(image, heap, inputs):
+    for a in range(3):
+        if heap[16 * a] != a + 2:
+            yield 16 * a
+    for a in range(0, len(heap), 16):
+        if heap[a]:
+            for k, t in enumerate(fields_of(image, heap[a] - 1), 1):
+                if not is_of(image, heap, heap[a + k], t):
+                    yield a + k
+
+
+def breaches_18(image, heap, inputs):
+    types = image.types[len(image.types) - image.inputs:]
+    for i, word in enumerate(inputs):
+        if not is_of(image, heap, word, types[i]):
+            yield i
+
+
+def conform(words, heap, inputs):
+    """The answer of the conformity check."""
+    number, place = layout(words)
+    if number:
+        return number, place
+    image = Image(words)
+    places = list(breaches_10(image))
+    if places:
+        return 10, min(places)
+    for number, breaches in enumerate((breaches_14, breaches_15, breaches_16, breaches_17, breaches_18), 14):
+        places = list(breaches(image, heap, inputs))
+        if places:
+            return number, min(places)
+    return 0, 0
+
+
 class BadLine(Exception):
     pass
 
@@ -428,35 +512,76 @@ def split(text):
     return [part for part in text.split(b" ") if part]
 
 
-def word_of(text):
-    """The decimal number of 32 bits that the text is, or None."""
+def word_of(text, bits):
+    """The decimal number of so many bits that the text is, or None."""
     digits = text.lstrip(b"0") or b"0"
-    if not all(48 <= b <= 57 for b in digits) or len(digits) > 10:
+    if not all(48 <= b <= 57 for b in digits) or len(digits) > 20:
         return None
-    return int(digits) if int(digits) < 2 ** 32 else None
+    return int(digits) if int(digits) < 2 ** bits else None
 
 
-def read_case(line):
-    """The name and the words of a case."""
+def words_of(text, subject, bits, room, full):
+    """The words of one part of a line."""
+    words = []
+    for part in split(text):
+        word = word_of(part, bits)
+        if word is None:
+            raise BadLine("%s %d is no decimal number of %d bits" % (subject, len(words), bits))
+        if len(words) == room:
+            raise BadLine(full)
+        words.append(word)
+    return words
+
+
+def read_head(line):
+    """The question and the name of a case, and what follows the bar."""
     head, bar, tail = line.partition(b"|")
     parts = split(head)
-    if parts[:1] != [b"check"]:
-        raise BadLine("the question is not known (known: check)")
+    if parts[:1] not in ([b"check"], [b"conform"]):
+        raise BadLine("the question is not known (known: check, conform)")
     if len(parts) < 2:
         raise BadLine("there is no name")
     if len(parts[1]) > LONGEST_NAME:
         raise BadLine("the name is longer than 64 bytes")
     if len(parts) > 2 or not bar:
         raise BadLine("there is no bar after the name")
-    words = []
-    for text in split(tail):
-        word = word_of(text)
-        if word is None:
-            raise BadLine("word %d is no decimal number of 32 bits" % len(words))
-        if len(words) == MOST_WORDS:
-            raise BadLine("there are more than 131072 words")
-        words.append(word)
-    return parts[1], words
+    return parts[0], parts[1], tail
+
+
+def image_of(text):
+    return words_of(text, "word", 32, MOST_WORDS, "there are more than 131072 words")
+
+
+def read_case(line):
+    """The name and the image of a case."""
+    question, name, tail = read_head(line)
+    return name, image_of(split_parts(tail)[0] if question == b"conform" else tail)
+
+
+def split_parts(tail):
+    """What stands before and after the first two bars. A bar stands after a blank or a bar."""
+    return re.split(rb"(?:^|(?<=[ \t\r|]))\|", tail, maxsplit=2)
+
+
+def read_conform(tail):
+    """Image, heap and inputs."""
+    parts = split_parts(tail)
+    image, heap, last = parts + [b""] * (3 - len(parts))
+    full = "there are more than 131072 words of heap and inputs"
+    words = image_of(image)
+    held = words_of(heap, "heap word", 64, MOST_WORDS, full)
+    inputs = words_of(last, "input", 64, MOST_WORDS - len(held), full)
+    if len(parts) < 3:
+        raise BadLine("image, heap and inputs are asked for, with a bar before each")
+    return words, held, inputs
+
+
+def answer(line):
+    """The name of a case, and the answer."""
+    question, name, tail = read_head(line)
+    if question == b"conform":
+        return (name,) + conform(*read_conform(tail))
+    return (name,) + check(image_of(tail))
 
 
 def main():
@@ -466,8 +591,7 @@ def main():
         if not split(line):
             continue
         try:
-            name, words = read_case(line)
-            out.write(b"%s %d %d\n" % ((name,) + check(words)))
+            out.write(b"%s %d %d\n" % answer(line))
         except BadLine as wrong:
             out.write(b"line %d: %s\n" % (number, str(wrong).encode()))
 

@@ -1,32 +1,15 @@
 -- How much of the lent memory a line has filled so far. Assumes nothing.
 use Prim.Native.Nat.{ℕ, _≤_}
+use mathlib.Core.Path.{_≡_}
 use mathlib.Core.List.{List}
 use lib.ListN.{length}
-use Rattle.answer.specs.declared.line.Line.{Line}
-use Rattle.answer.specs.declared.line.Line.the-variants.{Start, Question, Gap, Name, Bar, Words, Word, Wrong}
+use Rattle.answer.specs.declared.line.Filled.{Filled}
 
--- the bytes of its name
-abbrev pub nameOf : Line → ℕ
-nameOf Start = 0
-nameOf (Question k) = 0
-nameOf Gap = 0
-nameOf (Name n) = n
-nameOf (Bar n) = n
-nameOf (Words n k) = n
-nameOf (Word n k v) = n
-nameOf (Wrong f) = 0
+-- the name, the image's words, and the heap's words with the inputs behind them stand within their memory
+abbrev pub Within : Filled → List ℕ → List ℕ → List ℕ → Type 0
+Within f name words rest =
+    (f .name ≤ length name) × (f .words ≤ length words) × (f .heap ≤ f .rest) × (f .rest ≤ length rest)
 
--- its words
-abbrev pub wordsOf : Line → ℕ
-wordsOf Start = 0
-wordsOf (Question k) = 0
-wordsOf Gap = 0
-wordsOf (Name n) = 0
-wordsOf (Bar n) = 0
-wordsOf (Words n k) = k
-wordsOf (Word n k v) = k
-wordsOf (Wrong f) = 0
-
--- both stand within the memory
-abbrev pub Within : Line → List ℕ → List ℕ → Type 0
-Within l name words = (nameOf l ≤ length name) × (wordsOf l ≤ length words)
+-- but for the name, as much as before
+abbrev pub Same : Filled → Filled → Type 0
+Same g f = (g .words ≡ f .words) × (g .heap ≡ f .heap) × (g .rest ≡ f .rest)

@@ -1,5 +1,6 @@
 // Answers cases from standard input, one a line,
 //     check NAME | WORD WORD ..
+//     conform NAME | IMAGE WORD .. | HEAP WORD .. | INPUT ..
 // with one line each on standard output: the name, the number and the place. A line that is no
 // case is answered by what is wrong with it, and the next one is read as ever.
 mod line;
@@ -7,7 +8,10 @@ mod report;
 
 ghost use Rattle.answer.specs.Kept.{Within};
 use libc::STDIN_FILENO;
+use line::Filled;
 use line::Line;
+use line::Part;
+use line::State;
 use report::Fault;
 
 // Where the reading stands: the line so far, its number, and whether there may be more input.
@@ -18,34 +22,54 @@ struct Reader {
 }
 
 // The end of a line counts as a blank first, which ends the name or the word before it.
-fn end_line(r: Reader, name: &mut [u8], words: &mut [u32])
-    requires { ⌜ Within (r .line) (now name) (now words) ⌝ }
+fn end_line(r: Reader, name: &mut [u8], words: &mut [u32], rest: &mut [u64])
+    requires { ⌜ Within (r .line .filled) (now name) (now words) (now rest) ⌝ }
 {
     let line = r.line;
-    let last = line::step(line, b' ', name, words);
-    match last {
-        Line::Words(n, k) => report::answer(name, n, words, k),
-        Line::Gap => report::wrong(r.number, Fault::NoName),
-        Line::Bar(_) => report::wrong(r.number, Fault::NoBar),
-        Line::Wrong(f) => report::wrong(r.number, f),
+    let last = line::step(line, b' ', name, words, rest);
+    let f = last.filled;
+    let state = last.state;
+    match state {
+        State::Words(p) => answer(r.number, p, f, name, words, rest),
+        State::Gap(_) => report::wrong(r.number, Fault::NoName),
+        State::Bar(_) => report::wrong(r.number, Fault::NoBar),
+        State::Wrong(w) => report::wrong(r.number, w),
         _ => {}
     }
 }
 
-fn turn(s: Reader, b: u8, name: &mut [u8], words: &mut [u32]) -> Reader
-    requires { ⌜ Within (s .line) (now name) (now words) ⌝ }
-    ensures { λ r. ⌜ Within (r .line) (now (name .entry)) (now (words .entry)) ⌝ }
+// What is asked of the words shows in the part that they end in.
+fn answer(number: u64, p: Part, f: Filled, name: &[u8], words: &[u32], rest: &[u64])
+    requires { ⌜ Within f (now name) (now words) (now rest) ⌝ }
+{
+    let k = f.words;
+    match p {
+        Part::Only => report::answer(name, f.name, image_check::check_answer(&words[..k])),
+        Part::Inputs => {
+            let h = f.heap;
+            let r = f.rest;
+            let a = conform::conformity(&words[..k], &rest[..h], &rest[h..r]);
+            report::answer(name, f.name, a);
+        }
+        Part::Image => report::wrong(number, Fault::FewParts),
+        Part::Heap => report::wrong(number, Fault::FewParts),
+    }
+}
+
+fn turn(s: Reader, b: u8, name: &mut [u8], words: &mut [u32], rest: &mut [u64]) -> Reader
+    requires { ⌜ Within (s .line .filled) (now name) (now words) (now rest) ⌝ }
+    ensures { λ r. ⌜ Within (r .line .filled) (now (name .entry)) (now (words .entry)) (now (rest .entry)) ⌝ }
 {
     if b == b'\n' {
-        end_line(s, name, words);
+        end_line(s, name, words, rest);
         return Reader {
-            line: Line::Start,
+            line: line::empty(),
             number: std::num::wrapping_add_u64(s.number, 1),
             is_open: true,
         };
     }
     let line = s.line;
-    let next = line::step(line, b, name, words);
+    let next = line::step(line, b, name, words, rest);
     Reader {
         line: next,
         number: s.number,
@@ -53,29 +77,29 @@ fn turn(s: Reader, b: u8, name: &mut [u8], words: &mut [u32]) -> Reader
     }
 }
 
-fn work(start: Reader, piece: &[u8], name: &mut [u8], words: &mut [u32]) -> Reader
-    requires { ⌜ Within (start .line) (now name) (now words) ⌝ }
-    ensures { λ r. ⌜ Within (r .line) (now (name .entry)) (now (words .entry)) ⌝ }
+fn work(start: Reader, piece: &[u8], name: &mut [u8], words: &mut [u32], rest: &mut [u64]) -> Reader
+    requires { ⌜ Within (start .line .filled) (now name) (now words) (now rest) ⌝ }
+    ensures { λ r. ⌜ Within (r .line .filled) (now (name .entry)) (now (words .entry)) (now (rest .entry)) ⌝ }
 {
     let mut r = start;
     let mut i = 0;
     while i < piece.len() {
-        r = turn(r, piece[i], name, words);
+        r = turn(r, piece[i], name, words, rest);
         i += 1;
     }
     r
 }
 
 // Reads once, and works on what came.
-fn read_some(s: Reader, name: &mut [u8], words: &mut [u32]) -> Reader
-    requires { ⌜ Within (s .line) (now name) (now words) ⌝ }
-    ensures { λ r. ⌜ Within (r .line) (now (name .entry)) (now (words .entry)) ⌝ }
+fn read_some(s: Reader, name: &mut [u8], words: &mut [u32], rest: &mut [u64]) -> Reader
+    requires { ⌜ Within (s .line .filled) (now name) (now words) (now rest) ⌝ }
+    ensures { λ r. ⌜ Within (r .line .filled) (now (name .entry)) (now (words .entry)) (now (rest .entry)) ⌝ }
 {
     let mut piece = io::large_buffer();
     let got = libc::read(STDIN_FILENO, &mut piece);
     if got < 0 {
         return Reader {
-            line: Line::Wrong(Fault::NoInput),
+            line: line::unread(),
             number: s.number,
             is_open: false,
         };
@@ -89,27 +113,28 @@ fn read_some(s: Reader, name: &mut [u8], words: &mut [u32]) -> Reader
         };
     }
     let n = io::count(got, &piece);
-    work(s, &piece[..n], name, words)
+    work(s, &piece[..n], name, words, rest)
 }
 
 // A proved loop has to end, and nothing says that the input does: the turns count down from a number
 // that no run uses up. The last line may lack its end.
-fn read_all(name: &mut [u8], words: &mut [u32]) {
+fn read_all(name: &mut [u8], words: &mut [u32], rest: &mut [u64]) {
     let mut r = Reader {
-        line: Line::Start,
+        line: line::empty(),
         number: 1,
         is_open: true,
     };
     let mut turns = u64::MAX;
     while turns > 0 && r.is_open {
-        r = read_some(r, name, words);
+        r = read_some(r, name, words, rest);
         turns -= 1;
     }
-    end_line(r, name, words);
+    end_line(r, name, words, rest);
 }
 
 fn main() {
     let mut name = [0u8; 64];
     let mut words = [0u32; 131072];
-    read_all(&mut name, &mut words);
+    let mut rest = [0u64; 131072];
+    read_all(&mut name, &mut words, &mut rest);
 }

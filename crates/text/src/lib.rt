@@ -74,13 +74,16 @@ pub fn is_blank(b: u8) -> bool {
 
 // What a byte makes of the decimal number before it.
 pub enum Fed {
-    Number(u32),
+    Number(u64),
     NoDigit,
     TooLarge,
 }
 
-// The number n with one digit more, where the byte is a digit and the number is one of 32 bits.
-pub fn feed(n: u32, b: u8) -> Fed
+// The largest number that has a tenfold of 64 bits.
+const MOST_TENS: u64 = 1844674407370955161;
+
+// The number n with one digit more, where the byte is a digit and the number is one of 64 bits.
+pub fn feed(n: u64, b: u8) -> Fed
     ensures { λ r. ⌜ r ≡ fedOf n b ⌝ }
 {
     if b < 48 {
@@ -89,9 +92,12 @@ pub fn feed(n: u32, b: u8) -> Fed
     if 57 < b {
         return Fed::NoDigit;
     }
-    let v = 10 * (n as u64) + (b - 48) as u64;
-    if 4294967295 < v {
+    if MOST_TENS < n {
         return Fed::TooLarge;
     }
-    Fed::Number(v as u32)
+    let d = (b - 48) as u64;
+    if u64::MAX - d < 10 * n {
+        return Fed::TooLarge;
+    }
+    Fed::Number(10 * n + d)
 }

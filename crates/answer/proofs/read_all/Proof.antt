@@ -7,11 +7,14 @@ use Rattle.answer.proofs.read_all.Statement.{statement}
 use Rattle.answer.proofs.read_all.Tie as tie
 
 abbrev Inv-loop : tie.InvT-loop
-Inv-loop name₀ words₀ r₀ turns₀ name words r turns =
-    (length name ≡ length name₀) × (length words ≡ length words₀) × Within (r .line) name₀ words₀
+Inv-loop name₀ words₀ rest₀ r₀ turns₀ name words rest r turns =
+    (length name ≡ length name₀) × (length words ≡ length words₀) × (length rest ≡ length rest₀) × Within (r .line .filled) name₀ words₀ rest₀
 
 abbrev μ-loop : tie.MeasureT-loop
-μ-loop name₀ words₀ r₀ turns₀ name words r turns = turns
+μ-loop name₀ words₀ rest₀ r₀ turns₀ name words rest r turns = turns
+
+empty-requires : tie.Need-empty-requires Inv-loop μ-loop
+empty-requires c κs = search needs
 
 loop-holds : tie.Need-loop-holds Inv-loop μ-loop
 loop-holds c = search needs
@@ -37,6 +40,9 @@ same-length c = search needs
 same-length-2 : tie.Need-same-length-2 Inv-loop μ-loop
 same-length-2 c = search needs
 
+same-length-3 : tie.Need-same-length-3 Inv-loop μ-loop
+same-length-3 c = search needs
+
 returns : tie.Need-returns Inv-loop μ-loop
 returns c = search needs
 
@@ -46,6 +52,7 @@ read-all-spec =
     (tie.spec
     Inv-loop
     μ-loop
+    empty-requires
     loop-holds
     read-some-requires
     sub-turns
@@ -54,4 +61,5 @@ read-all-spec =
     end-line-requires
     same-length
     same-length-2
+    same-length-3
     returns)

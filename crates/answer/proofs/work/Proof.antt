@@ -8,11 +8,11 @@ use Rattle.answer.proofs.work.Statement.{statement}
 use Rattle.answer.proofs.work.Tie as tie
 
 abbrev Inv-loop : tie.InvT-loop
-Inv-loop piece name₀ words₀ r₀ i₀ name words r i =
-    (i ≤ length piece) × (length name ≡ length name₀) × (length words ≡ length words₀) × Within (r .line) name₀ words₀
+Inv-loop piece name₀ words₀ rest₀ r₀ i₀ name words rest r i =
+    (i ≤ length piece) × (length name ≡ length name₀) × (length words ≡ length words₀) × (length rest ≡ length rest₀) × Within (r .line .filled) name₀ words₀ rest₀
 
 abbrev μ-loop : tie.MeasureT-loop
-μ-loop piece name₀ words₀ r₀ i₀ name words r i = length piece - i
+μ-loop piece name₀ words₀ rest₀ r₀ i₀ name words rest r i = length piece - i
 
 loop-holds : tie.Need-loop-holds Inv-loop μ-loop
 loop-holds c = search needs
@@ -38,6 +38,9 @@ same-length c = search needs
 same-length-2 : tie.Need-same-length-2 Inv-loop μ-loop
 same-length-2 c = search needs
 
+same-length-3 : tie.Need-same-length-3 Inv-loop μ-loop
+same-length-3 c = search needs
+
 returns : tie.Need-returns Inv-loop μ-loop
 returns c = search needs
 
@@ -55,4 +58,5 @@ work-spec =
     loop-again
     same-length
     same-length-2
+    same-length-3
     returns)
