@@ -4,5 +4,6 @@ pub mod Trees
 pub mod Postorder
 pub mod Sites
 pub mod Classes
+pub mod Values
 pub mod Heap
 pub mod Frames
