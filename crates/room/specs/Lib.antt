@@ -1,0 +1,9 @@
+-- The room of a run, and a turn of the machine.
+pub mod Room
+pub mod Stack
+pub mod Turn
+-- Laws.
+pub mod RoomLaws
+pub mod Enter
+pub mod Armed
+pub mod Nodes
