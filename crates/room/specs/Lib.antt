@@ -7,3 +7,4 @@ pub mod RoomLaws
 pub mod Enter
 pub mod Armed
 pub mod Nodes
+pub mod Back
