@@ -248,6 +248,10 @@ module _ (ws : List ℕ) (good : (n : ℕ) → n < nodeCount ws → nodeHolds ws
   unfolding shapeOf
   is-block t = let o = rw t at ok in o
 
+  operand-last : (p : ℕ) → operand ws p 0 ≡ p - 1
+  unfolding operand
+  operand-last p = refl
+
   operand-in : (p j : ℕ) → p < nodeCount ws → j < operandCount ws p → operand ws p j < nodeCount ws
   operand-in p j h l = omega (arith, operand-below ws p (good p h) j l)
 
@@ -389,3 +393,89 @@ module _ (ws : List ℕ) (good : (n : ℕ) → n < nodeCount ws → nodeHolds ws
         around = sym (rw t (outers-in (throwF p Void) (frames ws room i) (storeOf room) refl));
         falls = omega arith;
       }
+
+  -- The first of two operands is a value: the second is gone into.
+  module _ (t : ℕ) (tagged : tag ws room i ≡ t) where
+    abbrev second-room : List ℕ
+    second-room = set (set room (frameAt i) (t + 16)) (frameAt i + 2) w
+
+    second-long : frameAt i + 16 ≤ length room
+    second-long = omega (arith, inv .long, inv .level)
+
+    second-kept : Kept room second-room i
+    second-kept = kept-set (frameAt i + 2) w (omega arith) (kept-set (frameAt i) (t + 16) (omega arith) (kept-refl room i))
+
+    second-tag : tag ws second-room i ≡ t + 16
+    second-tag =
+        getD-set-other (set room (frameAt i) (t + 16)) (frameAt i + 2) (frameAt i) w 0 (λ z. let y : frameAt i ≡ frameAt i + 2 = z in omega arith)
+        ∙ getD-set-same room (frameAt i) (t + 16) 0 (omega (arith, second-long))
+
+    second-place : word ws second-room i 1 ≡ word ws room i 1
+    second-place =
+        getD-set-other (set room (frameAt i) (t + 16)) (frameAt i + 2) (frameAt i + 1) w 0 (λ z. let y : frameAt i + 1 ≡ frameAt i + 2 = z in omega arith)
+        ∙ getD-set-other room (frameAt i) (frameAt i + 1) (t + 16) 0 (λ z. let y : frameAt i + 1 ≡ frameAt i = z in omega arith)
+
+    second-value : word ws second-room i 2 ≡ w
+    second-value = getD-set-same (set room (frameAt i) (t + 16)) (frameAt i + 2) w 0 (rw length-set (omega (arith, second-long)))
+
+    second-any : shapeOf t ≡ first → shapeOf (t + 16) ≡ second → IsNode ws (word ws room i 1) t → operandCount ws (word ws room i 1) ≡ 2
+        → plug blocked (frame ws second-room i) (storeOf room) (operandOf ws (word ws room i 1) 0)
+        ≡ plug blocked (frame ws room i) (storeOf room) (bare (valueAt w))
+        → outer (frame ws room i) (storeOf room) ≡ storeOf room
+        → outer (frame ws second-room i) (storeOf room) ≡ storeOf room
+        → Moves ws D room (suc i) (Word w) second-room (suc i) (Node (operand ws (word ws room i 1) 0))
+    unfolding frames focusOf pending weight behind
+    second-any e1 e2 n c e o o2 =
+        let p = word ws room i 1 in
+        let k = second-kept in
+        let z : t + 16 - 16 ≡ t = omega arith in
+        let y : operands (kindOf t) (nodeWord ws p 3) ≡ 2 = rw (← n .1) c in
+        let r : operand ws p 0 ≡ p - 1 = operand-last p in
+        record {
+          inv =
+              record {
+                fit =
+                    fit-more ws (kept-fit ws k (fit-less ws (omega arith) (inv .fit))) (rw (k .size) (omega (arith, second-long)))
+                    (rw (second-tag, e2, second-place, second-value, z) (n, inv .here));
+                level = inv .level;
+                long = rw (k .size) (inv .long);
+                here = operand-in p 0 (n .0) (omega arith);
+              };
+          size = k .size;
+          search = k .same searchWord (omega arith);
+          same =
+              rw (frames-more ws k, kept-store k)
+              (plugs-in (frame ws second-room i) (frames ws room i) (storeOf room) (operandOf ws p 0)
+              (plug blocked (frame ws room i) (storeOf room) (bare (valueAt w))) e o2
+              ∙ sym (plugs-in (frame ws room i) (frames ws room i) (storeOf room) (bare (valueAt w))
+              (plug blocked (frame ws room i) (storeOf room) (bare (valueAt w))) refl o));
+          around =
+              rw (frames-more ws k, kept-store k)
+              (outers-in (frame ws second-room i) (frames ws room i) (storeOf room) o2
+              ∙ sym (outers-in (frame ws room i) (frames ws room i) (storeOf room) o));
+          falls =
+              rw (second-tag, e2, pending-kept ws k, tagged, e1, y)
+              (omega (arith, operand-after ws p (good p (n .0)) 0 (omega arith), r));
+        }
+
+  pub add-moves : tag ws room i ≡ 4
+      → Moves ws D room (suc i) (Word w) (set (set room (frameAt i) 20) (frameAt i + 2) w) (suc i) (Node (operand ws (word ws room i 1) 0))
+  unfolding frame frameOf shapeOf begun kindOf halfway plug outer operands
+  add-moves t =
+      let n = is-first 4 refl t in
+      second-any 4 t refl refl n (rw (n .1)) (rw (second-tag 4 t, second-place 4 t, second-value 4 t, t)) (rw t) (rw (second-tag 4 t))
+
+  pub eq-moves : tag ws room i ≡ 5
+      → Moves ws D room (suc i) (Word w) (set (set room (frameAt i) 21) (frameAt i + 2) w) (suc i) (Node (operand ws (word ws room i 1) 0))
+  unfolding frame frameOf shapeOf begun kindOf halfway plug outer operands
+  eq-moves t =
+      let n = is-first 5 refl t in
+      second-any 5 t refl refl n (rw (n .1)) (rw (second-tag 5 t, second-place 5 t, second-value 5 t, t)) (rw t) (rw (second-tag 5 t))
+
+  pub set-moves : tag ws room i ≡ 8
+      → Moves ws D room (suc i) (Word w) (set (set room (frameAt i) 24) (frameAt i + 2) w) (suc i) (Node (operand ws (word ws room i 1) 0))
+  unfolding frame frameOf shapeOf begun kindOf halfway plug outer operands
+  set-moves t =
+      let n = is-first 8 refl t in
+      second-any 8 t refl refl n (rw (n .1)) (rw (second-tag 8 t, second-place 8 t, second-value 8 t, t)) (rw t) (rw (second-tag 8 t))
+
