@@ -176,6 +176,11 @@ unfolding throwOut
 throw-address w k e =
     record { is = address-at w k e; small = address-small w k e; out = λ p h s. rw (address-at w k e) }
 
+-- a method has as many parameters as its record says
+pub params-count : (ws : List ℕ) (j : ℕ) → length (methodAt ws j .params) ≡ methodWord ws j 4
+unfolding methodAt typesFrom
+params-count ws j = length-tabulate _ _
+
 -- A slot by its class word. Its class, where it has one, is the program's.
 module _ (ws hs : List ℕ) (l : Layout) (g : Good ws l) (k : Words (program ws) (classCount ws) hs) (a : ℕ) where
   pub object-class : (first : ℕ) → first ≡ getD hs (slotWords * a) 0 → (first ≡ 0 → ⊥) → first - 1 < l .«class_count»
@@ -194,7 +199,8 @@ module _ (ws hs : List ℕ) (l : Layout) (g : Good ws l) (k : Words (program ws)
     slot-free z = look-free (program ws) hs (k .whole) a (sym e ∙ z)
 
     -- Cast of the address
-    pub cast-free : (c : ℕ) → first ≡ 0 → redexOf (heapOf (program ws) hs) Fails ≡ castRedex (program ws) (heapOf (program ws) hs) c (Addr a)
+    pub cast-free : (c : ℕ) → first ≡ 0
+        → redexOf (heapOf (program ws) hs) Fails ≡ castRedex (program ws) (heapOf (program ws) hs) c (Addr a)
     unfolding redexOf castRedex castSlot
     cast-free c z = rw (slot-free z)
 
@@ -227,19 +233,16 @@ module _ (ws hs : List ℕ) (l : Layout) (g : Good ws l) (k : Words (program ws)
       unfolding callOut callSlot
       call-free z p s vs q = rw (slot-free z)
 
-      pub call-unseen : (first ≡ 0 → ⊥) → seesMethod (program ws) (first - 1) name ≡ none → Calls ws hs name count (Addr a) Target.Fails
+      pub call-unseen : (first ≡ 0 → ⊥) → seesMethod (program ws) (first - 1) name ≡ none
+          → Calls ws hs name count (Addr a) Target.Fails
       unfolding callOut callSlot enter
       call-unseen n m p s vs q = rw (slot-object first e n, m)
 
       module _ (d j : ℕ) (n : first ≡ 0 → ⊥) (m : MethodAt ws (first - 1) name d j) where
-        params-count : length (methodAt ws j .params) ≡ methodWord ws j 4
-        unfolding methodAt typesFrom
-        params-count = length-tabulate _ _
-
         pub call-unfit : (methodWord ws j 4 ≡ count → ⊥) → Calls ws hs name count (Addr a) Target.Fails
         unfolding callOut callSlot enter
         call-unfit u p s vs q =
-            rw (slot-object first e n, m .sees, params-count, q, ne-eqb count (methodWord ws j 4) (λ z. u (sym z)))
+            rw (slot-object first e n, m .sees, params-count ws j, q, ne-eqb count (methodWord ws j 4) (λ z. u (sym z)))
 
         pub call-enters : a < addresses → methodWord ws j 4 ≡ count → EntersAt ws hs name count (Addr a) a j
         unfolding callOut callSlot enter
@@ -249,7 +252,7 @@ module _ (ws hs : List ℕ) (l : Layout) (g : Good ws l) (k : Words (program ws)
               small = h;
               within = m .within;
               arguments = u;
-              out = λ p s vs q. rw (slot-object first e n, m .sees, params-count, q, u, eq-eqb count count refl);
+              out = λ p s vs q. rw (slot-object first e n, m .sees, params-count ws j, q, u, eq-eqb count count refl);
             }
 
 -- The word of a Value node. Its tag is below an address's.

@@ -22,6 +22,11 @@ use image::Layout;
 // A value's tag stands above the 32 bits of its payload.
 const TAG: u64 = 4294967296;
 
+// The addresses of the system exceptions that a decision may throw.
+pub const NULL_POINTER: usize = 0;
+
+pub const CLASS_CAST: usize = 1;
+
 // What a redex comes to: a value's word, a system exception's address, or no rule.
 pub enum Outcome {
     Gives(u64),
@@ -117,7 +122,7 @@ fn cast_address(ws: &[u32], l: Layout, heap: &[u64], c: usize, w: u64, a: usize)
     if classes::is_subclass(ws, l, d, c) {
         Outcome::Gives(w)
     } else {
-        Outcome::Raises(1)
+        Outcome::Raises(CLASS_CAST)
     }
 }
 
@@ -176,7 +181,7 @@ pub fn call_target(ws: &[u32], l: Layout, heap: &[u64], name: usize, count: usiz
     ensures { λ r. ⌜ Calls (now (ws .entry)) (now (heap .entry)) name count (valueAt w) r ⌝ }
 {
     match w / TAG {
-        1 => Target::Raises(0),
+        1 => Target::Raises(NULL_POINTER),
         4 => method_target(ws, l, heap, name, count, (w % TAG) as usize),
         _ => Target::Fails,
     }
