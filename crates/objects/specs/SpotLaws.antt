@@ -97,3 +97,96 @@ module _ (w : ℕ) (v : IsValue w) where
       let q : isIs (given (ltb (w % 4294967296) addresses) (Addr (w % 4294967296))) ≡ true = rw e at v in
       let z = sym (is-given (ltb (w % 4294967296) addresses) (Addr (w % 4294967296))) ∙ q in
       (rw (e, z), ltb-true _ _ z)
+
+-- and where it says something else, there is no object
+module _ (P : Program) (h : Heap) (name d : ℕ) where
+  no-object : (v : Value) → (v ≡ Null → ⊥) → ((a : ℕ) → v ≡ Addr a → ⊥)
+      → (getRedex P h name d v ≡ fails) × ((u : Value) → putRedex P h name d v u ≡ fails)
+  unfolding getRedex putRedex
+  no-object Value.Unit n m = (refl, λ u. refl)
+  no-object Null n m = absurd (n refl)
+  no-object (Value.Bool b) n m = (refl, λ u. refl)
+  no-object (Intg i) n m = (refl, λ u. refl)
+  no-object (Addr a) n m = absurd (m a refl)
+
+-- The answers, case by case.
+module _ (ws hs : List ℕ) (name d w : ℕ) where
+  pub spot-null : IsValue w → w / 4294967296 ≡ 1 → FieldRaises ws hs name d w 0
+  unfolding getRedex putRedex
+  spot-null v e = let z = null-word w v e in record { known = omega arith; reads = rw z; writes = λ u. rw z }
+
+  pub spot-other : IsValue w → (w / 4294967296 ≡ 1 → ⊥) → (w / 4294967296 ≡ 4 → ⊥) → FieldFails ws hs name d w
+  unfolding wordOf
+  spot-other v n m =
+      let e = written-word w v in
+      let r =
+      no-object (program ws) (heapOf (program ws) hs) name d (valueAt w)
+      (λ q. n (let z : 4294967296 ≡ w = ap wordOf (sym q) ∙ e in omega arith))
+      (λ a q.
+      let b : a < addresses = rw q at (written-proper w) in
+      m (let z : 4 * 4294967296 + a ≡ w = ap wordOf (sym q) ∙ e in omega arith)) in
+      record { reads = r .0; writes = r .1 }
+
+  module _ (k : Words (program ws) (classCount ws) hs) (a : ℕ) (e : valueAt w ≡ Addr a) where
+    pub spot-free : getD hs (slotWords * a) 0 ≡ 0 → FieldFails ws hs name d w
+    unfolding getRedex putRedex getSlot putSlot
+    spot-free z = let f = look-free (program ws) hs (k .whole) a z in record { reads = rw (e, f); writes = λ u. rw (e, f) }
+
+    -- an object
+    module _ (c : ℕ) (z : getD hs (slotWords * a) 0 ≡ suc c) where
+      spot-none : fieldIndex (hasFields (program ws) c) d name ≡ none → FieldFails ws hs name d w
+      unfolding getRedex putRedex getSlot putSlot getField putField
+      spot-none n =
+          let f = look-obj (program ws) hs (k .whole) a c z in
+          record { reads = rw (e, f, n); writes = λ u. rw (e, f, n) }
+
+      spot-some : (i : ℕ) → fieldIndex (hasFields (program ws) c) d name ≡ some i → FieldSpot ws hs name d w (slotWords * a + 1 + i)
+      unfolding getRedex putRedex getSlot putSlot getField putField takenAt slotWordHolds
+      spot-some i q =
+          let P = program ws in
+          let h = heapOf P hs in
+          let vs = fieldsAt P hs a c in
+          let j = slotWords * a + 1 + i in
+          let f : look h a ≡ obj c vs = look-obj P hs (k .whole) a c z in
+          let n = fieldIndex-found (hasFields P c) d name i q .within in
+          let few = k .few c (class-known P (classCount ws) hs k a c z) in
+          let count = obj-count P hs (k .whole) a c vs f in
+          let long : i < length vs = omega arith in
+          let inside : j < length hs = slot-inside P (classCount ws) hs k a c i z (omega arith) in
+          let at : j / slotWords ≡ a = omega arith in
+          let rest : j % slotWords ≡ suc i = omega arith in
+          record {
+            inside = inside;
+            reads = rw (e, f, q) (ap (gives h) (obj-field P hs (k .whole) a c vs f i Value.Unit long));
+            holds = rw (lt-ltb i (length (hasFields P c)) n) at (rw (rest, at, z) at (k .holds j inside));
+            writes =
+                λ u v.
+                let p = heap-put P (classCount ws) hs k a c vs i (valueAt u) f long (written-proper u) in
+                rw (e, f, q) (ap (λ (x : Heap). gives x (valueAt u)) (sym (rw (written-word u v) at p)));
+            keeps =
+                λ u v.
+                let s = heap-shaped P (classCount ws) hs k in
+                let p = words-put h (shaped-fits P (classCount ws) h s) a c vs i (valueAt u) f long in
+                let r = shaped-words P (classCount ws) (set h a (obj c (set vs i (valueAt u))))
+                (shaped-put P (classCount ws) h s a c vs i (valueAt u) f (written-proper u)) (k .few) in
+                rw (p, words-heap P (classCount ws) hs k, written-word u v) at r;
+            slots = λ u b. rw (getD-set-other hs j (slotWords * b) u 0 (λ y. omega arith));
+          }
+
+      -- The same by the index that the field has in class d.
+      module _ (low : Lower (program ws)) where
+        pub spot-not-below : subclass (program ws) c d ≡ false → FieldFails ws hs name d w
+        spot-not-below s = spot-none (index-in (program ws) d name low c ∙ rw s)
+
+        pub spot-missing : none ≡ fieldIndex (hasFields (program ws) d) d name → subclass (program ws) c d ≡ true
+            → FieldFails ws hs name d w
+        spot-missing n s = spot-none (index-in (program ws) d name low c ∙ rw (s, ← n))
+
+        pub spot-at : (i : ℕ) → some i ≡ fieldIndex (hasFields (program ws) d) d name → subclass (program ws) c d ≡ true
+            → FieldSpot ws hs name d w (slotWords * a + 1 + i)
+        spot-at i n s = spot-some i (index-in (program ws) d name low c ∙ rw (s, ← n))
+
+-- an index is small
+pub index-few : {P : Program} {classes : ℕ} {hs : List ℕ} → Words P classes hs → (d f i : ℕ) → d < classes
+    → some i ≡ fieldIndex (hasFields P d) d f → i < mostFieldsAbove
+index-few {P} k d f i h e = omega (arith, fieldIndex-found (hasFields P d) d f i (sym e) .within, k .few d h)
