@@ -3,7 +3,7 @@ use mathlib.Core.Path.{_≡_, refl, sym, _∙_, ap}
 use mathlib.Core.Bool.{Bool, true, false, cond, _&&_, _||_}
 use mathlib.Core.Option.{Option, none, some}
 use mathlib.Core.List.{List, [], _∷_, _++_}
-use Prim.Native.Nat.{ℕ, zero, suc, _+_, _*_, _/_, _%_, _^_, _≤_, _<_}
+use Prim.Native.Nat.{ℕ, zero, suc, _+_, _*_, _-_, _/_, _%_, _^_, _≤_, _<_}
 use native.Mathlib.Omega.{arith}
 use lib.Dec.{eqb, ltb}
 use lib.ListN.{length, getD, set}
@@ -190,3 +190,7 @@ module _ (ws hs : List ℕ) (name d w : ℕ) where
 pub index-few : {P : Program} {classes : ℕ} {hs : List ℕ} → Words P classes hs → (d f i : ℕ) → d < classes
     → some i ≡ fieldIndex (hasFields P d) d f → i < mostFieldsAbove
 index-few {P} k d f i h e = omega (arith, fieldIndex-found (hasFields P d) d f i (sym e) .within, k .few d h)
+
+-- a word that is not 0 is one above a class
+pub class-at : {first m : ℕ} → first ≡ m → (first ≡ 0 → ⊥) → m ≡ suc (first - 1)
+class-at e n = omega arith
