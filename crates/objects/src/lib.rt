@@ -71,3 +71,26 @@ pub fn field_spot(
         Found::Nowhere => Spot::Fails,
     }
 }
+
+// A new object of class c in slot a, which is free: its class word, and the default of each field's type.
+pub fn new_object(
+    ws: &[u32],
+    l: Layout,
+    counts: &[usize],
+    types: &[u32],
+    heap: &mut [u64],
+    a: usize,
+    c: usize,
+)
+    requires { ⌜ Good (now ws) l × Rows (now ws) (now counts) (now types) × Words (program (now ws)) (classCount (now ws)) (now heap) × (c < l .«class_count») × (slotWords * a < length (now heap)) × (getD (now heap) (slotWords * a) 0 ≡ 0) ⌝ }
+    ensures { λ _. ⌜ Made (now (ws .entry)) (now (heap .entry)) (now (heap .exit)) a c ⌝ }
+{
+    let n = counts[c];
+    heap[SLOT_WORDS * a] = (c + 1) as u64;
+    let mut k = 0;
+    while k < n {
+        let t = types[ROW_WORDS * c + k];
+        heap[SLOT_WORDS * a + 1 + k] = heap::default_word(t);
+        k += 1;
+    }
+}
