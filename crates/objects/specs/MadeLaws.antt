@@ -1,12 +1,11 @@
 -- Laws of new objects: where one is made, and the words that are written for it.
 use mathlib.Core.Path.{_≡_, refl, sym, _∙_, ap}
-use mathlib.Core.Bool.{true, not}
-use mathlib.Core.Option.{some, none}
+use mathlib.Core.Bool.{true}
+use mathlib.Core.Option.{some}
 use mathlib.Core.List.{List, [], _∷_, map}
 use mathlib.Core.Logic.{⊎-elim}
 use Prim.Native.Nat.{ℕ, zero, suc, _+_, _*_, _-_, _/_, _≤_, _<_}
 use native.Mathlib.Omega.{arith}
-use lib.Dec.{eqb}
 use lib.ListN.{length, getD, set, drop, length-map, length-set, drop-of-length-le}
 use lib.Seq.{sets, length-sets, drop-cons, getD-set-same, getD-set-other}
 use Rattle.order.specs.declared.Found.{Found}
@@ -18,15 +17,15 @@ use Rattle.words.specs.Value.{addresses, wordOf}
 use Rattle.image.specs.Trailer.{classCount}
 use Rattle.rules.specs.Program.{Field, Program, program}
 use Rattle.rules.specs.Classes.{hasFields}
-use Rattle.rules.specs.Heap.{free, obj, look, default, defaults, lowestFree, slotWords, heapOf, wordsOf}
+use Rattle.rules.specs.Heap.{free, obj, look, default, defaults, lowestFree, slotWords, heapOf}
 use Rattle.rules.specs.Numbers.{fieldType}
-use Rattle.rules.specs.Step.{newRedex, raises, outOfMemory}
+use Rattle.rules.specs.Step.{newRedex}
 use Rattle.laws.specs.Heap.{Words, place, taken, taken-word, room, look-free, free-word, length-heap, length-defaults, heap-fits, heap-new, heap-shaped, shaped-fits, shaped-new, shaped-words, words-heap, words-new}
 use Rattle.classes.specs.Search.{lt-or-ge}
 use Rattle.heap.specs.Rows.{rowWords, Rows}
 use Rattle.heap.specs.Slots.{takenAt}
 use Rattle.heap.specs.SlotLaws.{free-at, lowest-free, lowest-free-from}
-use Rattle.objects.specs.Made.{defaultWords, Made, Opens, Opened}
+use Rattle.objects.specs.Made.{defaultWords, Made, Opened}
 
 place-at : (r : Found) (a : ℕ) → place r ≡ some a → r ≡ At a
 place-at (At b) a e = let z : b ≡ a = cc in rw z
@@ -73,7 +72,7 @@ module _ (ws hs : List ℕ) (k : Words (program ws) (classCount ws) hs) where
       go Nowhere q = rw q
 
   -- the class word and the default words make an object
-  pub made : (a c : ℕ) → slotWords * a < length hs → getD hs (slotWords * a) 0 ≡ 0 → c < classCount ws
+  made : (a c : ℕ) → slotWords * a < length hs → getD hs (slotWords * a) 0 ≡ 0 → c < classCount ws
       → Made ws hs (sets hs (slotWords * a) (suc c ∷ defaultWords ws c)) a c
   made a c l e b =
       let P = program ws in
@@ -101,36 +100,43 @@ module _ (ws hs : List ℕ) (k : Words (program ws) (classCount ws) hs) where
             ∙ rw (same, getD-set-other h a x (obj c vs) free d) (sym (taken-look P n hs k x));
       }
 
--- A loop that writes the words: the class word and k fields are written, and what is left would make the object.
+-- A loop that writes the fields' words to `hs`: k of them are written, and the others would complete the object.
 pub record Making (ws hs after : List ℕ) (a c k : ℕ) : Type 0 where
   pub size : length after ≡ length hs
-  pub left : sets after (slotWords * a + 1 + k) (drop k (defaultWords ws c)) ≡ sets hs (slotWords * a) (suc c ∷ defaultWords ws c)
+  pub left : sets after (slotWords * a + 1 + k) (drop k (defaultWords ws c)) ≡ sets hs (suc (slotWords * a)) (defaultWords ws c)
+
+length-default-words : (ws : List ℕ) (c : ℕ) → length (defaultWords ws c) ≡ length (hasFields (program ws) c)
+length-default-words ws c = rw (length-map, length-defaults)
 
 module _ (ws hs : List ℕ) (a c : ℕ) where
-  pub making-start : Making ws hs (set hs (slotWords * a) (c + 1)) a c 0
-  making-start =
-      let p : c + 1 ≡ suc c = omega arith in
-      let q : slotWords * a + 1 + 0 ≡ suc (slotWords * a) = omega arith in
-      record { size = length-set hs (slotWords * a) (c + 1); left = rw (p, q) }
+  pub making-start : Making ws hs hs a c 0
+  making-start = let q : slotWords * a + 1 + 0 ≡ suc (slotWords * a) = omega arith in record { size = refl; left = rw q }
 
   module _ {after : List ℕ} {k : ℕ} (s : Making ws hs after a c k) where
     pub making-on : k < length (hasFields (program ws) c) → (t : ℕ) → t ≡ getD (defaultWords ws c) k 0
         → Making ws hs (set after (slotWords * a + 1 + k) t) a c (k + 1)
     making-on h t e =
-        let dw = defaultWords ws c in
-        let n : length dw ≡ length (hasFields (program ws) c) = rw (length-map, length-defaults) in
+        let n = length-default-words ws c in
         let p : k + 1 ≡ suc k = omega arith in
         let q : slotWords * a + 1 + suc k ≡ suc (slotWords * a + 1 + k) = omega arith in
         record {
           size = length-set after _ t ∙ s .size;
-          left = rw (p, q, e) (rw (drop-cons dw k 0 (omega arith)) at (s .left));
+          left = rw (p, q, e) (rw (drop-cons (defaultWords ws c) k 0 (omega arith)) at (s .left));
         }
 
-    pub making-end : length (hasFields (program ws) c) ≤ k → after ≡ sets hs (slotWords * a) (suc c ∷ defaultWords ws c)
+    pub making-end : length (hasFields (program ws) c) ≤ k → after ≡ sets hs (suc (slotWords * a)) (defaultWords ws c)
     making-end h =
-        let dw = defaultWords ws c in
-        let n : length dw ≡ length (hasFields (program ws) c) = rw (length-map, length-defaults) in
-        rw (drop-of-length-le dw (let m : length dw ≤ k = omega arith in m)) at (s .left)
+        let n = length-default-words ws c in
+        let m : length (defaultWords ws c) ≤ k = omega arith in
+        rw (drop-of-length-le (defaultWords ws c) m) at (s .left)
+
+-- which it does, after the class word
+pub made-whole : (ws hs : List ℕ) → Words (program ws) (classCount ws) hs → (a c : ℕ) → slotWords * a < length hs
+    → getD hs (slotWords * a) 0 ≡ 0 → c < classCount ws → {after : List ℕ} {k : ℕ}
+    → Making ws (set hs (slotWords * a) (c + 1)) after a c k → length (hasFields (program ws) c) ≤ k → Made ws hs after a c
+made-whole ws hs w a c l e b s h =
+    let q : c + 1 ≡ suc c = omega arith in
+    rw (making-end ws _ a c s h, q) (made ws hs w a c l e b)
 
 -- a field's default is that of its type
 defaults-at : (fs : List Field) (k : ℕ) → k < length fs → wordOf (default (fieldType fs k)) ≡ getD (map wordOf (defaults fs)) k 0

@@ -1,9 +1,9 @@
 -- Laws of a field's spot: the index of a field in every class, what a value's tag says, and the answers case by case.
 use mathlib.Core.Path.{_≡_, refl, sym, _∙_, ap}
-use mathlib.Core.Bool.{Bool, true, false, cond, _&&_, _||_}
+use mathlib.Core.Bool.{Bool, true, false, cond, _&&_}
 use mathlib.Core.Option.{Option, none, some}
 use mathlib.Core.List.{List, [], _∷_, _++_}
-use Prim.Native.Nat.{ℕ, zero, suc, _+_, _*_, _-_, _/_, _%_, _^_, _≤_, _<_}
+use Prim.Native.Nat.{ℕ, suc, _+_, _*_, _-_, _/_, _%_, _<_}
 use native.Mathlib.Omega.{arith}
 use lib.Dec.{eqb, ltb}
 use lib.ListN.{length, getD, set}
@@ -11,23 +11,17 @@ use lib.Seq.{getD-set-other}
 use borrow.Author.Tests.{eqb-true, eqb-false, ne-eqb, lt-ltb, ltb-true}
 use Rattle.words.specs.declared.Value.{Value}
 use Rattle.words.specs.declared.Value.the-variants.{Null, Intg, Addr}
-use Rattle.words.specs.declared.Decoded.{Decoded}
-use Rattle.words.specs.declared.Decoded.the-variants.{Is, Not}
 use Rattle.words.specs.Value.{addresses, valueOf, wordOf, isIs, given, valueWith, tagOf, payloadOf}
 use Rattle.words.specs.ValueLaws.{is-given}
 use Rattle.image.specs.Trailer.{classCount}
-use Rattle.image.specs.Layout.{Good}
-use Rattle.image.specs.declared.Layout.{Layout}
-use Rattle.rules.specs.Trees.{written}
 use Rattle.rules.specs.Program.{Field, Program, program}
 use Rattle.rules.specs.Classes.{super, subclass, own, hasFields, indexFrom, fieldIndex}
-use Rattle.rules.specs.Heap.{Slot, free, obj, Heap, look, slotWords, heapOf, wordsOf}
-use Rattle.rules.specs.Numbers.{mostFieldsAbove, slotWordHolds, slotFirst}
-use Rattle.rules.specs.Step.{gives, raises, fails, getField, getSlot, getRedex, putField, putSlot, putRedex}
+use Rattle.rules.specs.Heap.{obj, Heap, look, slotWords, heapOf}
+use Rattle.rules.specs.Numbers.{mostFieldsAbove, slotWordHolds}
+use Rattle.rules.specs.Step.{gives, fails, getField, getSlot, getRedex, putField, putSlot, putRedex}
 use Rattle.laws.specs.Classes.{Lower, class-ind, subclass-here, subclass-end, subclass-suc, hasFields-zero, hasFields-suc, fieldIndex-found}
 use Rattle.laws.specs.Heap.{Words, fieldsAt, look-free, look-obj, obj-count, obj-field, class-known, written-word, written-proper, heap-put, heap-shaped, shaped-fits, shaped-put, shaped-words, words-heap, words-put}
 use Rattle.laws.specs.Values.{valueAt, IsValue}
-use Rattle.classes.specs.Types.{low}
 use Rattle.heap.specs.Slots.{takenAt}
 use Rattle.heap.specs.SlotLaws.{slot-inside}
 use Rattle.objects.specs.Spots.{FieldSpot, FieldRaises, FieldFails}

@@ -1,102 +1,85 @@
+-- `objects::new_object` meets its contract.
+use Prim.Native.Nat.{_*_, _+_, _-_, _<_, _≤_}
+use Rattle.image.specs.Trailer.{classCount}
 use Rattle.objects.proofs.new_object.Statement.{statement}
+use Rattle.objects.specs.MadeLaws.{made-whole, Making, making-on, making-start, row-default}
+use borrow.Author.Needs.{needs}
+use lib.ListN.{length-set}
+use mathlib.Core.Path.{_∙_}
+use native.Mathlib.Omega.{arith}
 use Rattle.objects.proofs.new_object.Tie as tie
-use Rattle.objects.proofs.new_object.Reads as reads
-use Rattle.objects.proofs.new_object.Lts as lts
-use Rattle.heap.proofs.default_word.Reads as default-word-reads
 
 abbrev Inv-loop : tie.InvT-loop
-Inv-loop ws counts types heap₀ a c n k₀ heap k = ?
+Inv-loop ws counts types heap₀ a c n k₀ heap k = (k ≤ n) × Making ws heap₀ heap a c k
 
 abbrev μ-loop : tie.MeasureT-loop
-μ-loop ws counts types heap₀ a c n k₀ heap k = ?
+μ-loop ws counts types heap₀ a c n k₀ heap k = n - k
 
--- src/lib.rt:88:13
 mul-n : tie.Need-mul-n Inv-loop μ-loop
-mul-n c = ?
+mul-n c = let p = c .before .before .before .before .pre in let y = p .0 .lay .class-count in let b : c .before .before .before .before .args .c < classCount (c .before .before .before .before .args .ws .now) = omega (arith, p .3) in let m = p .0 .small .classes in let n = p .1 .sizes .count _ b in let f = p .1 .sizes .few _ b in omega arith
 
--- src/lib.rt:88:13
 shared-slice-read-n : tie.Need-shared-slice-read-n Inv-loop μ-loop
-shared-slice-read-n c = ?
+shared-slice-read-n c = let p = c .before .before .before .before .before .pre in let y = p .0 .lay .class-count in let b : c .before .before .before .before .before .args .c < classCount (c .before .before .before .before .before .args .ws .now) = omega (arith, p .3) in let m = p .0 .small .classes in let n = p .1 .sizes .count _ b in let f = p .1 .sizes .few _ b in omega (arith, p .1 .sizes .size)
 
--- src/lib.rt:89:29
 add-heap : tie.Need-add-heap Inv-loop μ-loop
-add-heap c = ?
+add-heap c = let p = c .before .before .before .before .before .pre in let y = p .0 .lay .class-count in let b : c .before .before .before .before .before .args .c < classCount (c .before .before .before .before .before .args .ws .now) = omega (arith, p .3) in let m = p .0 .small .classes in let n = p .1 .sizes .count _ b in let f = p .1 .sizes .few _ b in omega arith
 
--- src/lib.rt:89:10
 mul-heap : tie.Need-mul-heap Inv-loop μ-loop
-mul-heap c = ?
+mul-heap c = search needs
 
--- src/lib.rt:89:5
 mul-heap-2 : tie.Need-mul-heap-2 Inv-loop μ-loop
-mul-heap-2 c = ?
+mul-heap-2 c = search needs
 
--- src/lib.rt:89:5
 slice-write-heap : tie.Need-slice-write-heap Inv-loop μ-loop
-slice-write-heap c = ?
+slice-write-heap c = c .before .before .before .before .before .pre .4
 
--- src/lib.rt:91:5
 loop-holds : tie.Need-loop-holds Inv-loop μ-loop
-loop-holds c = ?
+loop-holds c = (omega arith, making-start _ _ _ _)
 
--- src/lib.rt:92:23
 mul-t : tie.Need-mul-t Inv-loop μ-loop
-mul-t c = ?
+mul-t c = let p = c .before .before .before .before .before .before .before .pre in let y = p .0 .lay .class-count in let b : c .before .before .before .before .before .before .before .args .c < classCount (c .before .before .before .before .before .before .before .args .ws .now) = omega (arith, p .3) in let m = p .0 .small .classes in let n = p .1 .sizes .count _ b in let f = p .1 .sizes .few _ b in omega arith
 
--- src/lib.rt:92:23
 add-t : tie.Need-add-t Inv-loop μ-loop
-add-t c = ?
+add-t c = let p = c .before .before .before .before .before .before .before .pre in let y = p .0 .lay .class-count in let b : c .before .before .before .before .before .before .before .args .c < classCount (c .before .before .before .before .before .before .before .args .ws .now) = omega (arith, p .3) in let m = p .0 .small .classes in let n = p .1 .sizes .count _ b in let f = p .1 .sizes .few _ b in let s = c .before .loop .inv .1 in omega arith
 
--- src/lib.rt:92:17
 mul-t-2 : tie.Need-mul-t-2 Inv-loop μ-loop
-mul-t-2 c = ?
+mul-t-2 c = let p = c .before .before .before .before .before .before .before .pre in let y = p .0 .lay .class-count in let b : c .before .before .before .before .before .before .before .args .c < classCount (c .before .before .before .before .before .before .before .args .ws .now) = omega (arith, p .3) in let m = p .0 .small .classes in let n = p .1 .sizes .count _ b in let f = p .1 .sizes .few _ b in let s = c .before .loop .inv .1 in omega arith
 
--- src/lib.rt:92:17
 shared-slice-read-t : tie.Need-shared-slice-read-t Inv-loop μ-loop
-shared-slice-read-t c = ?
+shared-slice-read-t c = let p = c .before .before .before .before .before .before .before .before .pre in let y = p .0 .lay .class-count in let b : c .before .before .before .before .before .before .before .before .args .c < classCount (c .before .before .before .before .before .before .before .before .args .ws .now) = omega (arith, p .3) in let m = p .0 .small .classes in let n = p .1 .sizes .count _ b in let f = p .1 .sizes .few _ b in let s = c .before .before .loop .inv .1 in omega (arith, p .1 .size)
 
--- src/lib.rt:93:40
 default-word-requires : tie.Need-default-word-requires Inv-loop μ-loop
-default-word-requires c κs = ?
+default-word-requires c κs = search needs
 
--- src/lib.rt:93:14
 mul-heap-3 : tie.Need-mul-heap-3 Inv-loop μ-loop
-mul-heap-3 c = ?
+mul-heap-3 c = search needs
 
--- src/lib.rt:93:14
 add-heap-2 : tie.Need-add-heap-2 Inv-loop μ-loop
-add-heap-2 c = ?
+add-heap-2 c = search needs
 
--- src/lib.rt:93:14
 add-heap-3 : tie.Need-add-heap-3 Inv-loop μ-loop
-add-heap-3 c = ?
+add-heap-3 c = let p = c .before .before .before .before .before .before .before .before .before .pre in let y = p .0 .lay .class-count in let b : c .before .before .before .before .before .before .before .before .before .args .c < classCount (c .before .before .before .before .before .before .before .before .before .args .ws .now) = omega (arith, p .3) in let m = p .0 .small .classes in let n = p .1 .sizes .count _ b in let f = p .1 .sizes .few _ b in let s = c .before .before .before .loop .inv .1 in let z = s .size in let u = length-set (c .before .before .before .before .before .before .before .before .before .args .heap .now) (16 * c .before .before .before .before .before .before .before .before .before .args .a) (c .before .before .before .before .before .before .before .before .before .args .c + 1) in let v = p .2 .whole in omega (arith, p .4)
 
--- src/lib.rt:93:9
 mul-heap-4 : tie.Need-mul-heap-4 Inv-loop μ-loop
-mul-heap-4 c = ?
+mul-heap-4 c = let p = c .before .before .before .before .before .before .before .before .before .pre in let y = p .0 .lay .class-count in let b : c .before .before .before .before .before .before .before .before .before .args .c < classCount (c .before .before .before .before .before .before .before .before .before .args .ws .now) = omega (arith, p .3) in let m = p .0 .small .classes in let n = p .1 .sizes .count _ b in let f = p .1 .sizes .few _ b in let s = c .before .before .before .loop .inv .1 in let z = s .size in let u = length-set (c .before .before .before .before .before .before .before .before .before .args .heap .now) (16 * c .before .before .before .before .before .before .before .before .before .args .a) (c .before .before .before .before .before .before .before .before .before .args .c + 1) in let v = p .2 .whole in omega (arith, p .4)
 
--- src/lib.rt:93:9
 slice-write-heap-2 : tie.Need-slice-write-heap-2 Inv-loop μ-loop
-slice-write-heap-2 c = ?
+slice-write-heap-2 c = let p = c .before .before .before .before .before .before .before .before .before .pre in let y = p .0 .lay .class-count in let b : c .before .before .before .before .before .before .before .before .before .args .c < classCount (c .before .before .before .before .before .before .before .before .before .args .ws .now) = omega (arith, p .3) in let m = p .0 .small .classes in let n = p .1 .sizes .count _ b in let f = p .1 .sizes .few _ b in let s = c .before .before .before .loop .inv .1 in let z = s .size in let u = length-set (c .before .before .before .before .before .before .before .before .before .args .heap .now) (16 * c .before .before .before .before .before .before .before .before .before .args .a) (c .before .before .before .before .before .before .before .before .before .args .c + 1) in let v = p .2 .whole in omega (arith, p .4)
 
--- src/lib.rt:94:9
 add-k : tie.Need-add-k Inv-loop μ-loop
-add-k c = ?
+add-k c = let p = c .before .before .before .before .before .before .before .before .before .pre in let y = p .0 .lay .class-count in let b : c .before .before .before .before .before .before .before .before .before .args .c < classCount (c .before .before .before .before .before .before .before .before .before .args .ws .now) = omega (arith, p .3) in let m = p .0 .small .classes in let n = p .1 .sizes .count _ b in let f = p .1 .sizes .few _ b in let s = c .before .before .before .loop .inv .1 in omega arith
 
--- src/lib.rt:91:5
 loop-less : tie.Need-loop-less Inv-loop μ-loop
-loop-less c = ?
+loop-less c = search needs
 
--- src/lib.rt:91:5
 loop-again : tie.Need-loop-again Inv-loop μ-loop
-loop-again c = ?
+loop-again c = let p = c .before .before .before .before .before .before .before .before .before .pre in let y = p .0 .lay .class-count in let b : c .before .before .before .before .before .before .before .before .before .args .c < classCount (c .before .before .before .before .before .before .before .before .before .args .ws .now) = omega (arith, p .3) in let m = p .0 .small .classes in let n = p .1 .sizes .count _ b in let f = p .1 .sizes .few _ b in let s = c .before .before .before .loop .inv .1 in (omega arith, making-on _ _ _ _ s (omega arith) _ (c .default-word .ensures ∙ row-default (p .1) _ _ b (omega arith)))
 
--- src/lib.rt:76:1
 same-length : tie.Need-same-length Inv-loop μ-loop
-same-length c = ?
+same-length c = let u = length-set (c .before .before .before .before .before .before .before .args .heap .now) (16 * c .before .before .before .before .before .before .before .args .a) (c .before .before .before .before .before .before .before .args .c + 1) in c .before .loop .inv .1 .size ∙ u
 
--- src/lib.rt:76:1
 returns : tie.Need-returns Inv-loop μ-loop
-returns c = ?
+returns c = let p = c .before .before .before .before .before .before .before .pre in let y = p .0 .lay .class-count in let b : c .before .before .before .before .before .before .before .args .c < classCount (c .before .before .before .before .before .before .before .args .ws .now) = omega (arith, p .3) in let m = p .0 .small .classes in let n = p .1 .sizes .count _ b in let f = p .1 .sizes .few _ b in made-whole _ _ (p .2) _ _ (p .4) (p .5) b (c .before .loop .inv .1) (omega arith)
 
 pub new-object-spec : {M : Type 1} → statement M
 new-object-spec =
