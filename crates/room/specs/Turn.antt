@@ -18,7 +18,7 @@ use Rattle.heap.specs.Slots.{takenAt}
 use Rattle.room.specs.declared.Focus.{Focus}
 use Rattle.room.specs.declared.Focus.the-variants.{Node, Value, Thrown}
 use Rattle.room.specs.declared.Go.{Go}
-use Rattle.room.specs.declared.Go.the-variants.{Moved, Stepped, Limit, Stuck, Deep}
+use Rattle.room.specs.declared.Go.the-variants.{Moved, Stepped, Limit, Sunk, Stuck, Deep}
 use Rattle.room.specs.Room.{searchWord, storeOf, Shape, first, second, operands as calls, block, test, loop, nothing, shapeOf, loaded, word, tag, frames, Fit}
 use Rattle.room.specs.Stack.{Goes, Halts, Beyond}
 
@@ -102,10 +102,17 @@ module _ (ws : List ℕ) where
     pub expr : Expr
     pub goes : Goes D (finds hs room l f) heap store expr
 
+  pub record Sinks (D : ℕ) (hs room : List ℕ) (l : ℕ) (f : Focus) : Type 0 where
+    pub store : Store
+    pub expr : Expr
+    pub goes : Goes D (finds hs room l f) (heapOf (program ws) hs) store expr
+    pub beyond : Beyond D (step (program ws) expr (heapOf (program ws) hs) store)
+
   -- What a turn promises, where `may` says whether a step may be taken. Without leave the heap is left alone.
   abbrev pub Turned : (D : ℕ) (may : Bool) (hs room : List ℕ) (l : ℕ) (f : Focus) (hs' room' : List ℕ) → Go → Type 0
   Turned D may hs room l f hs' room' (Moved g k) = Moves D room l f room' k g × (hs' ≡ hs)
   Turned D may hs room l f hs' room' (Stepped g k) = Steps D hs room l f hs' room' k g × (may ≡ false → hs' ≡ hs)
   Turned D may hs room l f hs' room' Limit = Could D hs room l f × (may ≡ false) × (hs' ≡ hs)
+  Turned D may hs room l f hs' room' Sunk = Sinks D hs room l f × (hs' ≡ hs)
   Turned D may hs room l f hs' room' (Stuck q) = Halts D (finds hs room l f) q × (hs' ≡ hs)
   Turned D may hs room l f hs' room' Deep = Beyond D (finds hs room l f) × (hs' ≡ hs)

@@ -8,11 +8,13 @@ pub enum Focus {
     Thrown(usize, usize),
 }
 
-// What a turn comes to. Moved and Stepped tell the new focus and how many frames are above it.
+// What a turn comes to. Moved and Stepped tell the new focus and how many frames are above it. Limit: there is a step, and it may not
+// be taken. Sunk: there is a step, and after it the active place is too deep for the room.
 pub enum Go {
     Moved(Focus, usize),
     Stepped(Focus, usize),
     Limit,
+    Sunk,
     Stuck(usize),
     Deep,
 }
