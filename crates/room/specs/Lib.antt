@@ -8,3 +8,4 @@ pub mod Enter
 pub mod Armed
 pub mod Nodes
 pub mod Back
+pub mod Unwind
