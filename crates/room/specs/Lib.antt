@@ -9,3 +9,4 @@ pub mod Armed
 pub mod Nodes
 pub mod Back
 pub mod Unwind
+pub mod Calls

@@ -200,12 +200,12 @@ module _ (ws room : List ℕ) (l t p a : ℕ) (h : frameAt l + 2 < length room) 
   push3-third = getD-set-same (push room l t p) (frameAt l + 2) a 0 (rw (push-kept ws room l t p .size) h)
 
 -- a block's frame, whose variable holds something else inside
-block-in : (p x : ℕ) (t : Ty) (s : Store) (mv : Option Value) (Fs : List Frame) (e : Expr)
+pub block-in : (p x : ℕ) (t : Ty) (s : Store) (mv : Option Value) (Fs : List Frame) (e : Expr)
     → plugs blocked (blockF p x t (s x) ∷ Fs) (upd s x mv) e ≡ plugs blocked Fs s (blocked p x t mv e)
 unfolding plugs plug outer
 block-in p x t s mv Fs e = rw (upd-same s x mv, upd-restore s x mv)
 
-block-around : (p x : ℕ) (t : Ty) (s : Store) (mv : Option Value) (Fs : List Frame)
+pub block-around : (p x : ℕ) (t : Ty) (s : Store) (mv : Option Value) (Fs : List Frame)
     → outers (blockF p x t (s x) ∷ Fs) (upd s x mv) ≡ outers Fs s
 unfolding outers outer
 block-around p x t s mv Fs = rw (upd-restore s x mv)
@@ -278,6 +278,17 @@ module _ (ws room : List ℕ) (l p x t w : ℕ) (local : x < variables) (h : fra
   pub block-below : (j : ℕ) → j < frameAt l → (j ≡ x → ⊥) → getD (pushBlock room l p x t w) j 0 ≡ getD room j 0
   unfolding pushBlock
   block-below j k d = getD-set-other (framed room l p x t) x j w 0 d ∙ framed-kept .same j k
+
+  -- and so is every word behind the five that it has
+  pub block-above : (j : ℕ) → frameAt l + 5 ≤ j → getD (pushBlock room l p x t w) j 0 ≡ getD room j 0
+  unfolding pushBlock framed push3 push
+  block-above j k =
+      getD-set-other (framed room l p x t) x j w 0 (λ e. let q : j ≡ x = e in omega arith)
+      ∙ getD-set-other (set (push3 room l 10 p x) (frameAt l + 3) t) (frameAt l + 4) j (getD room x 0) 0 (λ e. let q : j ≡ frameAt l + 4 = e in omega arith)
+      ∙ getD-set-other (push3 room l 10 p x) (frameAt l + 3) j t 0 (λ e. let q : j ≡ frameAt l + 3 = e in omega arith)
+      ∙ getD-set-other (push room l 10 p) (frameAt l + 2) j x 0 (λ e. let q : j ≡ frameAt l + 2 = e in omega arith)
+      ∙ getD-set-other (set room (frameAt l) 10) (frameAt l + 1) j p 0 (λ e. let q : j ≡ frameAt l + 1 = e in omega arith)
+      ∙ getD-set-other room (frameAt l) j 10 0 (λ e. let q : j ≡ frameAt l = e in omega arith)
 
   pub block-tag : tag ws (pushBlock room l p x t w) l ≡ 10
   unfolding pushBlock
