@@ -18,7 +18,7 @@ use Rattle.heap.specs.Slots.{takenAt}
 use Rattle.room.specs.declared.Focus.{Focus}
 use Rattle.room.specs.declared.Focus.the-variants.{Node, Value, Thrown}
 use Rattle.room.specs.declared.Go.{Go}
-use Rattle.room.specs.declared.Go.the-variants.{Moved, Stepped, Limit, Sunk, Stuck, Deep}
+use Rattle.room.specs.declared.Go.the-variants.{Moved, Stepped, Limit, Sunk, Stuck, Deep, Over}
 use Rattle.room.specs.Room.{searchWord, storeOf, Shape, first, second, operands as calls, block, test, loop, nothing, shapeOf, loaded, word, tag, frames, Fit}
 use Rattle.room.specs.Stack.{Goes, Halts, Beyond}
 
@@ -108,6 +108,12 @@ module _ (ws : List ℕ) where
     pub goes : Goes D (finds hs room l f) (heapOf (program ws) hs) store expr
     pub beyond : Beyond D (step (program ws) expr (heapOf (program ws) hs) store)
 
+  -- the focus is the whole expression, and final
+  abbrev pub Final : ℕ → Focus → Type 0
+  Final l (Node n) = ⊥
+  Final l (Value w) = l ≡ 0
+  Final l (Thrown a p) = l ≡ 0
+
   -- What a turn promises, where `may` says whether a step may be taken. Without leave the heap is left alone.
   abbrev pub Turned : (D : ℕ) (may : Bool) (hs room : List ℕ) (l : ℕ) (f : Focus) (hs' room' : List ℕ) → Go → Type 0
   Turned D may hs room l f hs' room' (Moved g k) = Moves D room l f room' k g × (hs' ≡ hs)
@@ -116,3 +122,4 @@ module _ (ws : List ℕ) where
   Turned D may hs room l f hs' room' Sunk = Sinks D hs room l f × (hs' ≡ hs)
   Turned D may hs room l f hs' room' (Stuck q) = Halts D (finds hs room l f) q × (hs' ≡ hs)
   Turned D may hs room l f hs' room' Deep = Beyond D (finds hs room l f) × (hs' ≡ hs)
+  Turned D may hs room l f hs' room' Over = Final l f × (hs' ≡ hs)

@@ -9,7 +9,8 @@ pub enum Focus {
 }
 
 // What a turn comes to. Moved and Stepped tell the new focus and how many frames are above it. Limit: there is a step, and it may not
-// be taken. Sunk: there is a step, and after it the active place is too deep for the room.
+// be taken. Sunk: there is a step, and after it the active place is too deep for the room. Over: no frame is above a value or an
+// address that is thrown.
 pub enum Go {
     Moved(Focus, usize),
     Stepped(Focus, usize),
@@ -17,4 +18,5 @@ pub enum Go {
     Sunk,
     Stuck(usize),
     Deep,
+    Over,
 }

@@ -1,0 +1,194 @@
+-- Laws of the loop: whatever turns have been taken, finishing from here gives the answer.
+use mathlib.Core.Path.{_≡_, refl, sym, _∙_, ap}
+use mathlib.Core.Bool.{Bool, true, false}
+use mathlib.Core.List.{List}
+use Prim.Native.Nat.{ℕ, zero, suc, _+_, _*_, _-_, _≤_, _<_}
+use native.Mathlib.Nat.{mul-le-mul-right, suc-mul}
+use native.Mathlib.Omega.{arith}
+use lib.ListN.{length, getD}
+use Rattle.image.specs.Trailer.{classCount, nodeCount}
+use Rattle.image.specs.Nodes.{nodeWord, kindOf, operands, nodeHolds}
+use Rattle.rules.specs.declared.End.{End}
+use Rattle.rules.specs.declared.End.the-variants.{Returned, Threw, OutOfSteps, TooDeep, Stuck}
+use Rattle.rules.specs.Trees.{operand}
+use Rattle.rules.specs.Program.{program}
+use Rattle.rules.specs.Heap.{heapOf, wordsOf}
+use Rattle.rules.specs.Step.{bare, thrown-at}
+use Rattle.rules.specs.Run.{Ended, run, heapAfter}
+use Rattle.laws.specs.Values.{valueAt}
+use Rattle.laws.specs.Trees.{node-size}
+use Rattle.laws.specs.Frames.{plugs}
+use Rattle.laws.specs.Heap.{words-heap}
+use Rattle.room.specs.declared.Focus.{Focus}
+use Rattle.room.specs.declared.Focus.the-variants.{Node, Value, Thrown}
+use Rattle.room.specs.Room.{searchWord, Shape, first, second, operands as calls, block, test, loop, nothing, shapeOf, word, tag, kept, frames, FrameOk, Fit}
+use Rattle.room.specs.Stack.{Goes, Halts, Beyond, run-goes, run-full, run-halts, run-beyond, run-value, run-thrown}
+use Rattle.room.specs.Turn.{HeapOk, focusOf, FocusOk, weight, behind, pending, phi, whole, outside, finds, Inv, Moves, Steps, Could, Sinks}
+use Rattle.machine.specs.declared.Finished.{Finished}
+use Rattle.machine.specs.Finished.{Finishes}
+
+module _ (ws : List ℕ) (good : (n : ℕ) → n < nodeCount ws → nodeHolds ws n ≡ true) (D : ℕ) where
+  -- Moves end: what they have still to go through is below a bound.
+  abbrev pub bound : ℕ
+  bound = 2 * (suc D * nodeCount ws) + 2 * nodeCount ws + 4
+
+  behind-low : (s : Shape) (t p a c : ℕ) (words : ℕ → ℕ) → FrameOk ws s t p a c words → behind ws s t p a ≤ nodeCount ws
+  unfolding behind
+  behind-low first t p a c words o = omega (arith, o .0)
+  behind-low second t p a c words o = omega arith
+  behind-low calls t p a c words o = omega (arith, o .0 .0)
+  behind-low block t p a c words o = omega arith
+  behind-low test t p a c words o = omega arith
+  behind-low loop t p a c words o = omega (arith, o .0, node-size ws p (good p (o .0)))
+  behind-low nothing t p a c words o = omega arith
+
+  pending-low : (room : List ℕ) (l : ℕ) → Fit ws room l → pending ws room l ≤ l * nodeCount ws
+  unfolding pending
+  pending-low room zero f = omega arith
+  pending-low room (suc i) f =
+      let g : Fit ws room i = record { long = omega (arith, f .long); frame-ok = λ j h. f .frame-ok j (omega arith); held-ok = f .held-ok } in
+      let e : suc i * nodeCount ws ≡ nodeCount ws + i * nodeCount ws = omega arith in
+      rw e
+      (omega (arith, pending-low room i g, behind-low (shapeOf (tag ws room i)) (tag ws room i) (word ws room i 1) (word ws room i 2) (word ws room i 4) (kept ws room i) (f .frame-ok i (omega arith))))
+
+  weight-low : (f : Focus) → FocusOk ws f → weight ws f ≤ 2 * nodeCount ws + 3
+  unfolding weight
+  weight-low (Node n) h = omega (arith, node-size ws n (good n h))
+  weight-low (Value w) h = omega arith
+  weight-low (Thrown a p) h = omega arith
+
+  times-low : (l n : ℕ) → l ≤ suc D → l * n ≤ suc D * n
+  times-low l n h = mul-le-mul-right n h
+
+  pub phi-low : (room : List ℕ) (l : ℕ) (f : Focus) → Inv ws D room l f → phi ws room l f < bound
+  phi-low room l f v =
+      omega (arith, pending-low room l (v .fit), weight-low f (v .here), times-low l (nodeCount ws) (v .level))
+
+  pub record Running (limit : ℕ) (ended : Ended) (length₀ : ℕ) (hs room : List ℕ) (l : ℕ) (f : Focus) (count : ℕ) : Type 0 where
+    pub inv : Inv ws D room l f
+    pub heap : HeapOk ws hs (getD room searchWord 0)
+    pub low : count ≤ limit
+    pub size : length room ≡ length₀
+    pub rest : run D (program ws) (limit - count) count (heapOf (program ws) hs) (outside ws room l) (whole ws room l f) ≡ ended
+
+  -- what falls from turn to turn
+  abbrev pub left : (limit count : ℕ) (room : List ℕ) (l : ℕ) (f : Focus) → ℕ
+  left limit count room l f = (limit - count) * bound + phi ws room l f
+
+  pub went-left : (limit count : ℕ) (room : List ℕ) (l : ℕ) (f : Focus) (room' : List ℕ) (l' : ℕ) (f' : Focus)
+      → Moves ws D room l f room' l' f' → left limit count room' l' f' < left limit count room l f
+  went-left limit count room l f room' l' f' m = omega (arith, m .falls)
+
+  pub took-left : (limit count : ℕ) (room : List ℕ) (l : ℕ) (f : Focus) (room' : List ℕ) (l' : ℕ) (f' : Focus)
+      → count < limit → Inv ws D room' l' f'
+      → left limit (count + 1) room' l' f' < left limit count room l f
+  took-left limit count room l f room' l' f' h v =
+      let e : limit - count ≡ suc (limit - (count + 1)) = omega arith in
+      rw (e, suc-mul) (omega (arith, phi-low room' l' f' v))
+
+  module _ {limit : ℕ} {ended : Ended} {n : ℕ} {hs room : List ℕ} {l : ℕ} {f : Focus} {count : ℕ}
+      (r : Running limit ended n hs room l f count) where
+    pub went : (hs' room' : List ℕ) (l' : ℕ) (f' : Focus) → Moves ws D room l f room' l' f' → hs' ≡ hs
+        → Running limit ended n hs' room' l' f' count
+    went hs' room' l' f' m e =
+        record {
+          inv = m .inv;
+          heap = rw (e, m .search) (r .heap);
+          low = r .low;
+          size = m .size ∙ r .size;
+          rest = rw (e, m .same, m .around) (r .rest);
+        }
+
+    pub took : (hs' room' : List ℕ) (l' : ℕ) (f' : Focus) → Steps ws D hs room l f hs' room' l' f' → count < limit
+        → Running limit ended n hs' room' l' f' (count + 1)
+    took hs' room' l' f' s h =
+        let e : limit - count ≡ suc (limit - (count + 1)) = omega arith in
+        let z : suc count ≡ count + 1 = omega arith in
+        record {
+          inv = s .inv;
+          heap = s .heap;
+          low = omega arith;
+          size = s .size ∙ r .size;
+          rest =
+              rw (← z, ← run-goes (program ws) D (heapOf (program ws) hs) (outside ws room l) (whole ws room l f) (limit - suc count) count
+              (heapOf (program ws) hs') (outside ws room' l') (whole ws room' l' f') (s .goes)) (rw (z, ← e) (r .rest));
+        }
+
+    -- the ends; the heap's words are those of the heap that the run ends with
+    ends : (e : End) (k : ℕ) (a : Finished) (hs' : List ℕ) → ended ≡ record { end = e; count = k; heap = heapOf (program ws) hs }
+        → a .end ≡ e → a .count ≡ k → hs' ≡ hs → Finishes ended a hs'
+    unfolding heapAfter
+    ends e k a hs' q u v z =
+        rw q (record { end-is = u; count-is = v; heap-is = z ∙ sym (words-heap (program ws) (classCount ws) hs (r .heap .words)) })
+
+    at-limit : limit ≤ count → limit - count ≡ 0
+    at-limit h = omega arith
+
+    pub full : Could ws D hs room l f → limit ≤ count → (a : Finished) (hs' : List ℕ) → a .end ≡ OutOfSteps → a .count ≡ count → hs' ≡ hs
+        → Finishes ended a hs'
+    full c h a hs' u v z =
+        ends OutOfSteps count a hs'
+        (sym (rw (at-limit h) at (r .rest))
+        ∙ run-full (program ws) D (heapOf (program ws) hs) (outside ws room l) (whole ws room l f) count (c .heap) (c .store) (c .expr) (c .goes))
+        u v z
+
+    pub halted : (q : ℕ) → Halts D (finds ws hs room l f) q → (a : Finished) (hs' : List ℕ) → a .end ≡ Stuck q → a .count ≡ count → hs' ≡ hs
+        → Finishes ended a hs'
+    halted q h a hs' u v z =
+        ends (Stuck q) count a hs'
+        (sym (r .rest)
+        ∙ run-halts (program ws) D (heapOf (program ws) hs) (outside ws room l) (whole ws room l f) (limit - count) count q h)
+        u v z
+
+    pub sunk : Beyond D (finds ws hs room l f) → (a : Finished) (hs' : List ℕ) → a .end ≡ TooDeep → a .count ≡ count → hs' ≡ hs
+        → Finishes ended a hs'
+    sunk b a hs' u v z =
+        ends TooDeep count a hs'
+        (sym (r .rest)
+        ∙ run-beyond (program ws) D (heapOf (program ws) hs) (outside ws room l) (whole ws room l f) (limit - count) count b)
+        u v z
+
+    pub sunk-after : Sinks ws D hs room l f → count < limit → (a : Finished) (hs' : List ℕ) → a .end ≡ TooDeep → a .count ≡ count + 1
+        → hs' ≡ hs
+        → Finishes ended a hs'
+    sunk-after s h a hs' u v z =
+        let e : limit - count ≡ suc (limit - suc count) = omega arith in
+        let y : suc count ≡ count + 1 = omega arith in
+        ends TooDeep (suc count) a hs'
+        (sym (rw e at (r .rest))
+        ∙ run-goes (program ws) D (heapOf (program ws) hs) (outside ws room l) (whole ws room l f) (limit - suc count) count
+        (heapOf (program ws) hs) (s .store) (s .expr) (s .goes)
+        ∙ run-beyond (program ws) D (heapOf (program ws) hs) (s .store) (s .expr) (limit - suc count) (suc count) (s .beyond))
+        u (v ∙ sym y) z
+
+  -- a step is one that could be taken
+  pub could : {hs room : List ℕ} {l : ℕ} {f : Focus} {hs' room' : List ℕ} {l' : ℕ} {f' : Focus} → Steps ws D hs room l f hs' room' l' f'
+      → Could ws D hs room l f
+  could {hs' = hs'} {room' = room'} {l' = l'} {f' = f'} s =
+      record { heap = heapOf (program ws) hs'; store = outside ws room' l'; expr = whole ws room' l' f'; goes = s .goes }
+
+  pub could-sink : {hs room : List ℕ} {l : ℕ} {f : Focus} → Sinks ws D hs room l f → Could ws D hs room l f
+  could-sink {hs = hs} s = record { heap = heapOf (program ws) hs; store = s .store; expr = s .expr; goes = s .goes }
+
+  -- no frame is above: a value, or Throw of an address
+  module _ {limit : ℕ} {ended : Ended} {n : ℕ} {hs room : List ℕ} {l count : ℕ} where
+    pub returned : (w : ℕ) → Running limit ended n hs room l (Value w) count → l ≡ 0 → (a : Finished) (hs' : List ℕ)
+        → a .end ≡ Returned (valueAt w) → a .count ≡ count → hs' ≡ hs → Finishes ended a hs'
+    unfolding frames plugs focusOf
+    returned w r e a hs' u v z =
+        ends r (Returned (valueAt w)) count a hs'
+        (sym (rw e at (r .rest)) ∙ run-value (program ws) D (heapOf (program ws) hs) _ (limit - count) count (valueAt w)) u v z
+
+    pub raised : (b p : ℕ) → Running limit ended n hs room l (Thrown b p) count → l ≡ 0 → (a : Finished) (hs' : List ℕ)
+        → a .end ≡ Threw b → a .count ≡ count → hs' ≡ hs → Finishes ended a hs'
+    unfolding frames plugs focusOf
+    raised b p r e a hs' u v z =
+        ends r (Threw b) count a hs'
+        (sym (rw e at (r .rest)) ∙ run-thrown (program ws) D (heapOf (program ws) hs) _ (limit - count) count p b) u v z
+
+  pub started : (limit : ℕ) (hs room : List ℕ) (n : ℕ) → Inv ws D room 0 (Node n) → HeapOk ws hs (getD room searchWord 0)
+      → Running limit
+      (run D (program ws) limit 0 (heapOf (program ws) hs) (outside ws room 0) (whole ws room 0 (Node n))) (length room) hs room 0 (Node n) 0
+  started limit hs room n v h =
+      let z : limit - 0 ≡ limit = omega arith in
+      record { inv = v; heap = h; low = omega arith; size = refl; rest = rw z }
