@@ -2,10 +2,12 @@
 use mathlib.Core.Path.{_≡_, refl, sym, _∙_, ap}
 use mathlib.Core.Bool.{Bool, true, false}
 use mathlib.Core.List.{List}
-use Prim.Native.Nat.{ℕ, zero, suc, _+_, _*_, _-_, _≤_, _<_}
+use Prim.Native.Nat.{ℕ, zero, suc, _+_, _*_, _-_, _%_, _^_, _≤_, _<_}
 use native.Mathlib.Nat.{mul-le-mul-right, suc-mul}
 use native.Mathlib.Omega.{arith}
+use lib.Dec.{ltb}
 use lib.ListN.{length, getD}
+use borrow.Author.Tests.{ltb-true, ltb-false}
 use Rattle.image.specs.Trailer.{classCount, nodeCount}
 use Rattle.image.specs.Nodes.{nodeWord, kindOf, operands, nodeHolds}
 use Rattle.rules.specs.declared.End.{End}
@@ -23,15 +25,28 @@ use Rattle.room.specs.declared.Focus.{Focus}
 use Rattle.room.specs.declared.Focus.the-variants.{Node, Value, Thrown}
 use Rattle.room.specs.Room.{searchWord, Shape, first, second, operands as calls, block, test, loop, nothing, shapeOf, word, tag, kept, frames, FrameOk, Fit}
 use Rattle.room.specs.Stack.{Goes, Halts, Beyond, run-goes, run-full, run-halts, run-beyond, run-value, run-thrown}
-use Rattle.room.specs.Turn.{HeapOk, focusOf, FocusOk, weight, behind, pending, phi, whole, outside, finds, Inv, Moves, Steps, Could, Sinks}
+use Rattle.room.specs.Turn.{HeapOk, focusOf, FocusOk, Final, weight, behind, pending, phi, whole, outside, finds, Inv, Moves, Steps, Could, Sinks}
 use Rattle.machine.specs.declared.Finished.{Finished}
-use Rattle.machine.specs.Finished.{Finishes}
+use Rattle.machine.specs.Finished.{Finishes, endOf, sunkAt}
 
-module _ (ws : List ℕ) (good : (n : ℕ) → n < nodeCount ws → nodeHolds ws n ≡ true) (D : ℕ) where
+module _ (ws : List ℕ) (D : ℕ) where
   -- Moves end: what they have still to go through is below a bound.
   abbrev pub bound : ℕ
   bound = 2 * (suc D * nodeCount ws) + 2 * nodeCount ws + 4
 
+  pub record Running (limit : ℕ) (ended : Ended) (hs₀ room₀ hs room : List ℕ) (l : ℕ) (f : Focus) (count : ℕ) : Type 0 where
+    pub inv : Inv ws D room l f
+    pub heap : HeapOk ws hs (getD room searchWord 0)
+    pub low : count ≤ limit
+    pub size : length room ≡ length room₀
+    pub heap-size : length hs ≡ length hs₀
+    pub rest : run D (program ws) (limit - count) count (heapOf (program ws) hs) (outside ws room l) (whole ws room l f) ≡ ended
+
+  -- what falls from turn to turn
+  abbrev pub left : (limit count : ℕ) (room : List ℕ) (l : ℕ) (f : Focus) → ℕ
+  left limit count room l f = (limit - count) * bound + phi ws room l f
+
+module _ (ws : List ℕ) (good : (n : ℕ) → n < nodeCount ws → nodeHolds ws n ≡ true) (D : ℕ) where
   behind-low : (s : Shape) (t p a c : ℕ) (words : ℕ → ℕ) → FrameOk ws s t p a c words → behind ws s t p a ≤ nodeCount ws
   unfolding behind
   behind-low first t p a c words o = omega (arith, o .0)
@@ -60,48 +75,39 @@ module _ (ws : List ℕ) (good : (n : ℕ) → n < nodeCount ws → nodeHolds ws
   times-low : (l n : ℕ) → l ≤ suc D → l * n ≤ suc D * n
   times-low l n h = mul-le-mul-right n h
 
-  pub phi-low : (room : List ℕ) (l : ℕ) (f : Focus) → Inv ws D room l f → phi ws room l f < bound
+  pub phi-low : (room : List ℕ) (l : ℕ) (f : Focus) → Inv ws D room l f → phi ws room l f < bound ws D
   phi-low room l f v =
       omega (arith, pending-low room l (v .fit), weight-low f (v .here), times-low l (nodeCount ws) (v .level))
 
-  pub record Running (limit : ℕ) (ended : Ended) (length₀ : ℕ) (hs room : List ℕ) (l : ℕ) (f : Focus) (count : ℕ) : Type 0 where
-    pub inv : Inv ws D room l f
-    pub heap : HeapOk ws hs (getD room searchWord 0)
-    pub low : count ≤ limit
-    pub size : length room ≡ length₀
-    pub rest : run D (program ws) (limit - count) count (heapOf (program ws) hs) (outside ws room l) (whole ws room l f) ≡ ended
-
-  -- what falls from turn to turn
-  abbrev pub left : (limit count : ℕ) (room : List ℕ) (l : ℕ) (f : Focus) → ℕ
-  left limit count room l f = (limit - count) * bound + phi ws room l f
-
   pub went-left : (limit count : ℕ) (room : List ℕ) (l : ℕ) (f : Focus) (room' : List ℕ) (l' : ℕ) (f' : Focus)
-      → Moves ws D room l f room' l' f' → left limit count room' l' f' < left limit count room l f
+      → Moves ws D room l f room' l' f' → left ws D limit count room' l' f' < left ws D limit count room l f
   went-left limit count room l f room' l' f' m = omega (arith, m .falls)
 
   pub took-left : (limit count : ℕ) (room : List ℕ) (l : ℕ) (f : Focus) (room' : List ℕ) (l' : ℕ) (f' : Focus)
       → count < limit → Inv ws D room' l' f'
-      → left limit (count + 1) room' l' f' < left limit count room l f
+      → left ws D limit (count + 1) room' l' f' < left ws D limit count room l f
   took-left limit count room l f room' l' f' h v =
       let e : limit - count ≡ suc (limit - (count + 1)) = omega arith in
-      rw (e, suc-mul) (omega (arith, phi-low room' l' f' v))
+      rw (e, suc-mul (limit - (count + 1)) (bound ws D)) (omega (arith, phi-low room' l' f' v))
 
-  module _ {limit : ℕ} {ended : Ended} {n : ℕ} {hs room : List ℕ} {l : ℕ} {f : Focus} {count : ℕ}
-      (r : Running limit ended n hs room l f count) where
+  module _ {limit : ℕ} {ended : Ended} {hs₀ room₀ hs room : List ℕ} {l : ℕ} {f : Focus} {count : ℕ}
+      (r : Running ws D limit ended hs₀ room₀ hs room l f count) where
     pub went : (hs' room' : List ℕ) (l' : ℕ) (f' : Focus) → Moves ws D room l f room' l' f' → hs' ≡ hs
-        → Running limit ended n hs' room' l' f' count
+        → Running ws D limit ended hs₀ room₀ hs' room' l' f' count
     went hs' room' l' f' m e =
         record {
           inv = m .inv;
           heap = rw (e, m .search) (r .heap);
           low = r .low;
           size = m .size ∙ r .size;
+          heap-size = rw e (r .heap-size);
           rest = rw (e, m .same, m .around) (r .rest);
         }
 
     pub took : (hs' room' : List ℕ) (l' : ℕ) (f' : Focus) → Steps ws D hs room l f hs' room' l' f' → count < limit
-        → Running limit ended n hs' room' l' f' (count + 1)
-    took hs' room' l' f' s h =
+        → length hs' ≡ length hs
+        → Running ws D limit ended hs₀ room₀ hs' room' l' f' (count + 1)
+    took hs' room' l' f' s h b =
         let e : limit - count ≡ suc (limit - (count + 1)) = omega arith in
         let z : suc count ≡ count + 1 = omega arith in
         record {
@@ -109,6 +115,7 @@ module _ (ws : List ℕ) (good : (n : ℕ) → n < nodeCount ws → nodeHolds ws
           heap = s .heap;
           low = omega arith;
           size = s .size ∙ r .size;
+          heap-size = b ∙ r .heap-size;
           rest =
               rw (← z, ← run-goes (program ws) D (heapOf (program ws) hs) (outside ws room l) (whole ws room l f) (limit - suc count) count
               (heapOf (program ws) hs') (outside ws room' l') (whole ws room' l' f') (s .goes)) (rw (z, ← e) (r .rest));
@@ -171,15 +178,15 @@ module _ (ws : List ℕ) (good : (n : ℕ) → n < nodeCount ws → nodeHolds ws
   could-sink {hs = hs} s = record { heap = heapOf (program ws) hs; store = s .store; expr = s .expr; goes = s .goes }
 
   -- no frame is above: a value, or Throw of an address
-  module _ {limit : ℕ} {ended : Ended} {n : ℕ} {hs room : List ℕ} {l count : ℕ} where
-    pub returned : (w : ℕ) → Running limit ended n hs room l (Value w) count → l ≡ 0 → (a : Finished) (hs' : List ℕ)
+  module _ {limit : ℕ} {ended : Ended} {hs₀ room₀ hs room : List ℕ} {l count : ℕ} where
+    pub returned : (w : ℕ) → Running ws D limit ended hs₀ room₀ hs room l (Value w) count → l ≡ 0 → (a : Finished) (hs' : List ℕ)
         → a .end ≡ Returned (valueAt w) → a .count ≡ count → hs' ≡ hs → Finishes ended a hs'
     unfolding frames plugs focusOf
     returned w r e a hs' u v z =
         ends r (Returned (valueAt w)) count a hs'
         (sym (rw e at (r .rest)) ∙ run-value (program ws) D (heapOf (program ws) hs) _ (limit - count) count (valueAt w)) u v z
 
-    pub raised : (b p : ℕ) → Running limit ended n hs room l (Thrown b p) count → l ≡ 0 → (a : Finished) (hs' : List ℕ)
+    pub raised : (b p : ℕ) → Running ws D limit ended hs₀ room₀ hs room l (Thrown b p) count → l ≡ 0 → (a : Finished) (hs' : List ℕ)
         → a .end ≡ Threw b → a .count ≡ count → hs' ≡ hs → Finishes ended a hs'
     unfolding frames plugs focusOf
     raised b p r e a hs' u v z =
@@ -187,8 +194,32 @@ module _ (ws : List ℕ) (good : (n : ℕ) → n < nodeCount ws → nodeHolds ws
         (sym (rw e at (r .rest)) ∙ run-thrown (program ws) D (heapOf (program ws) hs) _ (limit - count) count p b) u v z
 
   pub started : (limit : ℕ) (hs room : List ℕ) (n : ℕ) → Inv ws D room 0 (Node n) → HeapOk ws hs (getD room searchWord 0)
-      → Running limit
-      (run D (program ws) limit 0 (heapOf (program ws) hs) (outside ws room 0) (whole ws room 0 (Node n))) (length room) hs room 0 (Node n) 0
+      → Running ws D limit
+      (run D (program ws) limit 0 (heapOf (program ws) hs) (outside ws room 0) (whole ws room 0 (Node n))) hs room hs room 0 (Node n) 0
   started limit hs room n v h =
       let z : limit - 0 ≡ limit = omega arith in
-      record { inv = v; heap = h; low = omega arith; size = refl; rest = rw z }
+      record { inv = v; heap = h; low = omega arith; size = refl; heap-size = refl; rest = rw z }
+
+  -- the answer to a call that sinks, and the answer at the end
+  pub sunk-answer : {limit : ℕ} {ended : Ended} {hs₀ room₀ hs room : List ℕ} {l : ℕ} {f : Focus} {count : ℕ}
+      → Running ws D limit ended hs₀ room₀ hs room l f count → Sinks ws D hs room l f → (a : Finished) (hs' : List ℕ)
+      → a ≡ sunkAt limit count → hs' ≡ hs → Finishes ended a hs'
+  unfolding sunkAt
+  sunk-answer {limit} {ended} {count = count} r s a hs' e z = go (ltb count limit) refl
+    where
+      go : (t : Bool) → ltb count limit ≡ t → Finishes ended a hs'
+      go true h =
+          let q : a ≡ record { end = TooDeep; count = count + 1 } = e ∙ rw h in
+          sunk-after r s (ltb-true count limit h) a hs' (ap (λ (b : Finished). b .end) q) (ap (λ (b : Finished). b .count) q) z
+      go false h =
+          let q : a ≡ record { end = OutOfSteps; count = count } = e ∙ rw h in
+          full r (could-sink s) (ltb-false count limit h) a hs' (ap (λ (b : Finished). b .end) q) (ap (λ (b : Finished). b .count) q) z
+
+  pub over-answer : {limit : ℕ} {ended : Ended} {hs₀ room₀ hs room : List ℕ} {l count : ℕ} (f : Focus)
+      → Running ws D limit ended hs₀ room₀ hs room l f count → Final ws l f → (a : Finished) (hs' : List ℕ)
+      → a .end ≡ endOf f → a .count ≡ count → hs' ≡ hs → Finishes ended a hs'
+  over-answer (Node n) r h a hs' u v z = absurd h
+  over-answer (Value w) r h a hs' u v z = returned w r h a hs' u v z
+  over-answer (Thrown b p) r h a hs' u v z =
+      let e : b % 2 ^ 32 ≡ b = omega (arith, r .inv .here) in
+      raised b p r h a hs' (u ∙ ap Threw e) v z
