@@ -96,13 +96,6 @@ def around(main):
 
 # ---- the ceilings
 
-def ceilings():
-    yield from ceilings_of_sections()
-    yield from ceilings_of_counts()
-    yield from ceilings_of_names()
-    yield from ceilings_of_variables()
-
-
 def ceilings_of_sections():
     for n in (256, 257):
         d = smallest()
@@ -203,18 +196,6 @@ def with_word(words, at, value):
     words = list(words)
     words[at] = value
     return words
-
-
-def breaches():
-    yield from breaches_1()
-    yield from breaches_2()
-    yield from breaches_3()
-    yield from breaches_4()
-    yield from breaches_5()
-    yield from breaches_6()
-    yield from breaches_7()
-    yield from breaches_8()
-    yield from breaches_9()
 
 
 def breaches_1():
@@ -556,11 +537,18 @@ def heap_lengths():
         print_heap("slots_%d_and_a_word" % slots, heap + [0])
 
 
+# The image cases, in the order in which they are printed.
+PARTS = (
+    ceilings_of_sections, ceilings_of_counts, ceilings_of_names, ceilings_of_variables, breaches_1, breaches_2, breaches_3,
+    breaches_4, breaches_5, breaches_6, breaches_7, breaches_8, breaches_9, pairs,
+)
+
+
 def extra():
     print_case("smallest", smallest().words())
     print_case("survey", survey().words())
     seen = set()
-    for part in (ceilings, breaches, pairs):
+    for part in PARTS:
         for name, words in part():
             assert name not in seen, name
             seen.add(name)

@@ -19,12 +19,8 @@ ghost use Rattle.classes.specs.Counts.{Counted};
 use image::Layout;
 use image::MOST_CLASSES;
 use order::Found;
-
-// The word of class 0 as a type. The words below it name no class.
-const FIRST_CLASS: u32 = 4;
-
-// The word of the null type.
-const NULL_TYPE: u32 = 3;
+use words::FIRST_CLASS;
+use words::NULL_TYPE;
 
 // How many names there are. A key is a class's number times this, plus the name.
 const NAMES: usize = 65536;

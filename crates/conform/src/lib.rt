@@ -19,6 +19,7 @@ ghost use Rattle.rules.specs.Numbers.{fewestSlots, fieldsRule, heapRule, inputT
 ghost use Rattle.laws.specs.Heap.{Words};
 ghost use Rattle.heap.specs.Rows.{Rows};
 ghost use Rattle.conform.specs.Answers.{conformedNumbers, dataRules, loadedRules};
+use heap::FEWEST_SLOTS;
 use heap::ROW_WORDS;
 use heap::SLOT_WORDS;
 use heap::TABLE_WORDS;
@@ -28,23 +29,13 @@ use image::Layout;
 use image::MOST_CLASSES;
 use order::Answer;
 use order::Found;
+use words::BOOLEAN;
 use words::Decoded;
+use words::FIRST_CLASS;
+use words::INTEGER;
+use words::NULL_TYPE;
+use words::VOID;
 use words::Value;
-
-// The word of class 0 as a type.
-const FIRST_CLASS: u32 = 4;
-
-// The words of the plain types, and of the null type.
-const VOID: u32 = 0;
-
-const BOOLEAN: u32 = 1;
-
-const INTEGER: u32 = 2;
-
-const NULL_TYPE: u32 = 3;
-
-// Slots that the system's objects stand in. Slot a holds class a + 1, so its word is a + 2.
-const SYSTEM_SLOTS: usize = 3;
 
 // What the conformity check answers: accepted, or the first breach with its place.
 pub enum Conformed {
@@ -88,11 +79,11 @@ pub fn value_conforms(ws: &[u32], l: Layout, heap: &[u64], w: u64, t: u32) -> bo
     }
 }
 
-// A slot of the system's holds its class and no other.
+// A slot of the system's holds its class and no other: slot a holds class a + 1, so its word is a + 2.
 fn system_slot_holds(a: usize, first: u64) -> bool
     ensures { λ r. ⌜ r ≡ cond (ltb a fewestSlots) (eqb first (suc (suc a))) true ⌝ }
 {
-    if a < SYSTEM_SLOTS {
+    if a < FEWEST_SLOTS {
         first == a as u64 + 2
     } else {
         true

@@ -25,17 +25,15 @@ use classes::Seen;
 use image::Layout;
 use order::Found;
 use words::Decoded;
+use words::TAG;
 
 // Words of a slot: its class, and as many fields as a class may have.
 pub const SLOT_WORDS: usize = 16;
 
-// The bounds of a heap, in slots.
-const FEWEST_SLOTS: usize = 3;
+// The bounds of a heap, in slots. The first ones hold the system's objects, so no heap has fewer.
+pub const FEWEST_SLOTS: usize = 3;
 
 const MOST_SLOTS: usize = 4096;
-
-// A value's tag stands above the 32 bits of its payload.
-const TAG: u64 = 4294967296;
 
 // Words of a class's row in the table of types: as many as a class may have fields.
 pub const ROW_WORDS: usize = 15;

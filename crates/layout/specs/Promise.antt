@@ -1,14 +1,17 @@
 -- The layout check's promise, for the reader: its answer is the lowest breach of 1 to 9, or 0 where there is none; and no other answer is.
 use mathlib.Core.Path.{_≡_, refl, sym, _∙_, ap}
+use mathlib.Core.Bool.{true, false}
 use mathlib.Core.List.{List, [], _∷_}
 use mathlib.Core.Logic.{_↔_}
 use Prim.Native.Nat.{ℕ, suc, _<_, _≤_}
 use native.Mathlib.Omega.{arith}
+use lib.Dec.{eqb, ltb}
 use lib.ListN.{getD}
+use borrow.Author.Tests.{eqb-false}
 use Rattle.order.specs.declared.Answer.{Answer}
 use Rattle.order.specs.Rules.{Rule, answerOf, accepted, Tells}
 use Rattle.order.specs.Rules.{Sound as Unbroken}
-use Rattle.order.specs.Lowest.{Rising, only, accepts}
+use Rattle.order.specs.Lowest.{Rising, only, accepts, determined}
 use Rattle.image.specs.Layout.{formatRule, trailerRule, ceilingRule, classRule, fieldRule, methodRule, typeRule, nodeRule, bodyRule, recordRules, layoutRules, tested, breachNumbers, laidNumbers, Lay, Good, Brings}
 use Rattle.image.specs.declared.Layout.{Layout}
 use Rattle.image.specs.declared.Breach.{Breach}
@@ -18,8 +21,7 @@ use Rattle.image.specs.declared.Laid.the-variants.{Sound, Broken}
 
 rising : (ws : List ℕ) → Rising 0 (layoutRules ws)
 unfolding layoutRules recordRules formatRule trailerRule ceilingRule classRule fieldRule methodRule typeRule nodeRule bodyRule tested
-rising ws =
-    (omega arith, (omega arith, (omega arith, (omega arith, (omega arith, (omega arith, (omega arith, (omega arith, (omega arith, tt)))))))))
+rising ws = omega arith
 
 -- an answer meets the promise exactly when it tells the first breach
 pub first-breach : (ws : List ℕ) (a : Answer) → (a ≡ answerOf (layoutRules ws)) ↔ Tells (layoutRules ws) a
@@ -34,7 +36,7 @@ pub same-answer : (ws : List ℕ) (a b : Answer) → a ≡ answerOf (layoutRules
 same-answer ws a b e f = e ∙ sym f
 
 -- The enum is determined too. Each breach has a number of its own,
-breachOf : Answer → Breach
+pub breachOf : Answer → Breach
 breachOf a =
     getD
     ((λ p. Format)
@@ -52,7 +54,7 @@ breachOf a =
     (λ p. Format)
     (a .place)
 
-breach-back : (b : Breach) → breachOf (breachNumbers b) ≡ b
+pub breach-back : (b : Breach) → breachOf (breachNumbers b) ≡ b
 unfolding breachOf
 breach-back Format = refl
 breach-back (Trailer p) = refl
@@ -65,19 +67,22 @@ breach-back (NodeRecord p) = refl
 breach-back (Bodies p) = refl
 
 pub same-breach : (b c : Breach) → breachNumbers b ≡ breachNumbers c → b ≡ c
-same-breach b c e = sym (breach-back b) ∙ ap breachOf e ∙ breach-back c
+same-breach = determined breachNumbers breachOf breach-back
 
--- none of them is 0,
+-- none of them is 0 or above 9,
+pub breach-range : (b : Breach) → (eqb (breachNumbers b .number) 0 ≡ false) × (ltb (breachNumbers b .number) 10 ≡ true)
+breach-range Format = (refl, refl)
+breach-range (Trailer p) = (refl, refl)
+breach-range (Ceiling p) = (refl, refl)
+breach-range (ClassRecord p) = (refl, refl)
+breach-range (FieldRecord p) = (refl, refl)
+breach-range (MethodRecord p) = (refl, refl)
+breach-range (TypeWord p) = (refl, refl)
+breach-range (NodeRecord p) = (refl, refl)
+breach-range (Bodies p) = (refl, refl)
+
 breach-number : (b : Breach) → breachNumbers b .number ≡ 0 → ⊥
-breach-number Format e = omega (arith, e)
-breach-number (Trailer p) e = omega (arith, e)
-breach-number (Ceiling p) e = omega (arith, e)
-breach-number (ClassRecord p) e = omega (arith, e)
-breach-number (FieldRecord p) e = omega (arith, e)
-breach-number (MethodRecord p) e = omega (arith, e)
-breach-number (TypeWord p) e = omega (arith, e)
-breach-number (NodeRecord p) e = omega (arith, e)
-breach-number (Bodies p) e = omega (arith, e)
+breach-number b e = eqb-false (breachNumbers b .number) 0 (breach-range b .0) e
 
 -- and an image has one layout.
 pub same-layout : (ws : List ℕ) (l m : Layout) → Lay ws l → Lay ws m → l ≡ m

@@ -153,6 +153,10 @@ unique rs a b s t =
         → a ≡ b
     same k l x y = let z = both x y in λ i. record { number = z .0 i; place = z .1 i }
 
+-- an enum answer that is found again from its numbers is determined by them
+pub determined : {A : Type 0} (numbers : A → Answer) (of : Answer → A) → ((a : A) → of (numbers a) ≡ a) → (a b : A) → numbers a ≡ numbers b → a ≡ b
+determined numbers of back a b e = sym (back a) ∙ ap of e ∙ back b
+
 -- For rules with rising numbers: an answer is the walk's exactly when the rules call for it,
 pub only : (rs : List Rule) → Rising 0 rs → (a : Answer) → (a ≡ answerOf rs) ↔ Tells rs a
 only rs g a = ((λ e. rw e (tells 0 rs g)), λ t. unique rs a (answerOf rs) t (tells 0 rs g))

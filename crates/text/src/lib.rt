@@ -3,6 +3,7 @@ ghost use mathlib.Core.Path.{_≡_};
 ghost use Prim.Native.Nat.{_+_, _*_, _/_, _≤_, _<_, min};
 ghost use lib.ListN.{length};
 ghost use Rattle.text.specs.Words.{Counts, Words, WideWords, fourBytes, twoWords, wordAt};
+ghost use Rattle.text.specs.Blanks.{isBlank};
 ghost use Rattle.text.specs.Decimal.{fedOf};
 
 fn least(a: usize, b: usize) -> usize
@@ -65,11 +66,10 @@ pub fn words64(bytes: &[u8], out: &mut [u64]) -> usize
 }
 
 // Space, tab, and the carriage return that may stand before a line's end.
-pub fn is_blank(b: u8) -> bool {
-    match b {
-        b' ' | b'\t' | b'\r' => true,
-        _ => false,
-    }
+pub fn is_blank(b: u8) -> bool
+    ensures { λ r. ⌜ r ≡ isBlank b ⌝ }
+{
+    (b == 32) | (b == 9) | (b == 13)
 }
 
 // What a byte makes of the decimal number before it.

@@ -28,16 +28,11 @@ use classes::Seen;
 use image::Kind;
 use image::Layout;
 use order::Found;
-
-const VOID: u32 = 0;
-
-const BOOLEAN: u32 = 1;
-
-const INTEGER: u32 = 2;
-
-const NULL_TYPE: u32 = 3;
-
-const FIRST_CLASS: u32 = 4;
+use words::BOOLEAN;
+use words::FIRST_CLASS;
+use words::INTEGER;
+use words::NULL_TYPE;
+use words::VOID;
 
 // What the typing of a node finds: its type, or the place of the first node that has none.
 pub enum Typed {

@@ -6,13 +6,21 @@ ghost use Rattle.words.specs.Integer.{plusOf};
 ghost use Rattle.words.specs.Types.{typeOf, typeWord, Named, isDeclared, isType};
 
 // A tag stands above the 32 bits of the payload.
-const TAG: u64 = 4294967296;
+pub const TAG: u64 = 4294967296;
 
 // The heap has this many addresses, so a payload of tag 4 is below it.
 const ADDRESSES: u32 = 4096;
 
-// The type word of class 0. The words below it name no class.
-const FIRST_CLASS: u32 = 4;
+// The words of the types that are no class, and of class 0. Class c's word is FIRST_CLASS + c.
+pub const VOID: u32 = 0;
+
+pub const BOOLEAN: u32 = 1;
+
+pub const INTEGER: u32 = 2;
+
+pub const NULL_TYPE: u32 = 3;
+
+pub const FIRST_CLASS: u32 = 4;
 
 // A value. An Intg holds its 32 bits, and an Addr its number.
 pub enum Value {
