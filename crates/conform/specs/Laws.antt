@@ -1,4 +1,4 @@
--- Laws of 17 and 18, and of rules that are asked after others.
+-- Laws of 17 and 18, and of the rules that are asked after the layout's.
 use mathlib.Core.Path.{_≡_, refl, sym, _∙_, ap}
 use mathlib.Core.Bool.{Bool, true, false, cond}
 use mathlib.Core.List.{List, [], _∷_, _++_}
@@ -11,7 +11,7 @@ use Rattle.order.specs.declared.Answer.{Answer}
 use Rattle.order.specs.declared.Found.{Found}
 use Rattle.order.specs.declared.Found.the-variants.{At, Nowhere}
 use Rattle.order.specs.Rules.{Rule, scan, firstPlace, accepted, orElse, answerOf}
-use Rattle.order.specs.Lowest.{Rising, held}
+use Rattle.order.specs.Lowest.{held, after-broken, after-sound}
 use Rattle.words.specs.declared.Value.{Value}
 use Rattle.words.specs.declared.Value.the-variants.{Null, Intg, Addr}
 use Rattle.words.specs.declared.Decoded.the-variants.{Is}
@@ -25,6 +25,7 @@ use Rattle.image.specs.Records.{typeAt}
 use Rattle.image.specs.declared.Breach.{Breach}
 use Rattle.image.specs.declared.Breach.the-variants.{Format, Trailer, Ceiling, ClassRecord, FieldRecord, MethodRecord, TypeWord, NodeRecord, Bodies}
 use Rattle.image.specs.Layout.{breachNumbers, tested, formatRule, trailerRule, ceilingRule, classRule, fieldRule, methodRule, typeRule, nodeRule, bodyRule, recordRules, layoutRules}
+use Rattle.layout.specs.Promise.{breach-told, layout-rising}
 use Rattle.rules.specs.Trees.{written}
 use Rattle.rules.specs.Program.{Program, program, typesFrom, inputTypes}
 use Rattle.rules.specs.Classes.{subtype, hasFields}
@@ -35,43 +36,6 @@ use Rattle.laws.specs.Maps.{getD-tabulate}
 use Rattle.laws.specs.Heap.{Words, words, look-free, look-obj, class-known}
 use Rattle.heap.specs.Rows.{rowWords, Rows}
 use Rattle.conform.specs.Answers.{dataRules, loadedRules}
-
--- Rules that are asked after others: what they say counts where the others are broken nowhere.
-after-broken : (rs ss : List Rule) (a : Answer) → a ≡ answerOf rs → 0 < a .number → a ≡ answerOf (rs ++ ss)
-unfolding answerOf
-after-broken [] ss a e h = absurd (let z : a .number ≡ 0 = ap (λ (a : Answer). a .number) e in omega arith)
-after-broken (r ∷ rs) ss a e h = go (firstPlace r) e (λ q. after-broken rs ss a q h)
-  where
-    go : (f : Found) → a ≡ orElse (r .number) f (answerOf rs) → (a ≡ answerOf rs → a ≡ answerOf (rs ++ ss))
-        → a ≡ orElse (r .number) f (answerOf (rs ++ ss))
-    go (At q) e ih = e
-    go Nowhere e ih = ih e
-
-after-sound : (b : ℕ) (rs ss : List Rule) → Rising b rs → accepted ≡ answerOf rs → answerOf ss ≡ answerOf (rs ++ ss)
-unfolding answerOf
-after-sound b [] ss g e = refl
-after-sound b (r ∷ rs) ss g e = go (firstPlace r) e (λ q. after-sound (r .number) rs ss (g .1) q)
-  where
-    go : (f : Found) → accepted ≡ orElse (r .number) f (answerOf rs) → (accepted ≡ answerOf rs → answerOf ss ≡ answerOf (rs ++ ss))
-        → answerOf ss ≡ orElse (r .number) f (answerOf (rs ++ ss))
-    go (At q) e ih = absurd (let z : 0 ≡ r .number = ap (λ (a : Answer). a .number) e in omega (arith, g .0))
-    go Nowhere e ih = ih e
-
-breach-told : (b : Breach) → 0 < breachNumbers b .number
-breach-told Format = omega arith
-breach-told (Trailer p) = omega arith
-breach-told (Ceiling p) = omega arith
-breach-told (ClassRecord p) = omega arith
-breach-told (FieldRecord p) = omega arith
-breach-told (MethodRecord p) = omega arith
-breach-told (TypeWord p) = omega arith
-breach-told (NodeRecord p) = omega arith
-breach-told (Bodies p) = omega arith
-
-layout-rising : (ws : List ℕ) → Rising 0 (layoutRules ws)
-unfolding layoutRules recordRules formatRule trailerRule ceilingRule classRule fieldRule methodRule typeRule nodeRule bodyRule tested
-layout-rising ws =
-    (omega arith, (omega arith, (omega arith, (omega arith, (omega arith, (omega arith, (omega arith, (omega arith, (omega arith, tt)))))))))
 
 module _ (ws hs is : List ℕ) where
   pub layout-broken : (b : Breach) → breachNumbers b ≡ answerOf (layoutRules ws) → breachNumbers b ≡ answerOf (conformRules ws hs is)

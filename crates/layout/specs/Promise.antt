@@ -3,7 +3,7 @@ use mathlib.Core.Path.{_≡_, refl, sym, _∙_, ap}
 use mathlib.Core.Bool.{true, false}
 use mathlib.Core.List.{List, [], _∷_}
 use mathlib.Core.Logic.{_↔_}
-use Prim.Native.Nat.{ℕ, suc, _<_, _≤_}
+use Prim.Native.Nat.{ℕ, zero, suc, _<_, _≤_}
 use native.Mathlib.Omega.{arith}
 use lib.Dec.{eqb, ltb}
 use lib.ListN.{getD}
@@ -19,17 +19,17 @@ use Rattle.image.specs.declared.Breach.the-variants.{Format, Trailer, Ceiling, 
 use Rattle.image.specs.declared.Laid.{Laid}
 use Rattle.image.specs.declared.Laid.the-variants.{Sound, Broken}
 
-rising : (ws : List ℕ) → Rising 0 (layoutRules ws)
+pub layout-rising : (ws : List ℕ) → Rising 0 (layoutRules ws)
 unfolding layoutRules recordRules formatRule trailerRule ceilingRule classRule fieldRule methodRule typeRule nodeRule bodyRule tested
-rising ws = omega arith
+layout-rising ws = omega arith
 
 -- an answer meets the promise exactly when it tells the first breach
 pub first-breach : (ws : List ℕ) (a : Answer) → (a ≡ answerOf (layoutRules ws)) ↔ Tells (layoutRules ws) a
-first-breach ws = only (layoutRules ws) (rising ws)
+first-breach ws = only (layoutRules ws) (layout-rising ws)
 
 -- the answer is 0 exactly when no rule from 1 to 9 is broken anywhere
 pub layout-accepted : (ws : List ℕ) → (answerOf (layoutRules ws) ≡ accepted) ↔ Unbroken (layoutRules ws)
-layout-accepted ws = accepts (layoutRules ws) (rising ws)
+layout-accepted ws = accepts (layoutRules ws) (layout-rising ws)
 
 -- two answers that meet the promise are equal
 pub same-answer : (ws : List ℕ) (a b : Answer) → a ≡ answerOf (layoutRules ws) → b ≡ answerOf (layoutRules ws) → a ≡ b
@@ -83,6 +83,13 @@ breach-range (Bodies p) = (refl, refl)
 
 breach-number : (b : Breach) → breachNumbers b .number ≡ 0 → ⊥
 breach-number b e = eqb-false (breachNumbers b .number) 0 (breach-range b .0) e
+
+pub breach-told : (b : Breach) → 0 < breachNumbers b .number
+breach-told b = positive (breachNumbers b .number) (breach-number b)
+  where
+    positive : (n : ℕ) → (n ≡ 0 → ⊥) → 0 < n
+    positive zero d = absurd (d refl)
+    positive (suc n) d = omega arith
 
 -- and an image has one layout.
 pub same-layout : (ws : List ℕ) (l m : Layout) → Lay ws l → Lay ws m → l ≡ m

@@ -1,7 +1,7 @@
 -- Laws: `answerOf` tells the lowest breach of rules listed with rising numbers, and nothing else does.
 use mathlib.Core.Bool.{Bool, true, false, cond}
 use mathlib.Core.Path.{_≡_, refl, sym, _∙_, ap}
-use mathlib.Core.List.{List, [], _∷_}
+use mathlib.Core.List.{List, [], _∷_, _++_}
 use mathlib.Core.Logic.{_⊎_, inl, inr, ⊎-elim, _↔_}
 use Prim.Native.Nat.{ℕ, zero, suc, _+_, _-_, _≤_, _<_}
 use native.Mathlib.Omega.{arith}
@@ -171,3 +171,24 @@ accepts rs g = (
       (only rs g accepted .0 (sym e)),
   λ s. sym (only rs g accepted .1 (inl (s, refl))),
 )
+
+-- Rules that are asked after others: what they say counts where the others are broken nowhere.
+pub after-broken : (rs ss : List Rule) (a : Answer) → a ≡ answerOf rs → 0 < a .number → a ≡ answerOf (rs ++ ss)
+unfolding answerOf
+after-broken [] ss a e h = absurd (let z : a .number ≡ 0 = ap (λ (a : Answer). a .number) e in omega arith)
+after-broken (r ∷ rs) ss a e h = go (firstPlace r) e (λ q. after-broken rs ss a q h)
+  where
+    go : (f : Found) → a ≡ orElse (r .number) f (answerOf rs) → (a ≡ answerOf rs → a ≡ answerOf (rs ++ ss))
+        → a ≡ orElse (r .number) f (answerOf (rs ++ ss))
+    go (At q) e ih = e
+    go Nowhere e ih = ih e
+
+pub after-sound : (b : ℕ) (rs ss : List Rule) → Rising b rs → accepted ≡ answerOf rs → answerOf ss ≡ answerOf (rs ++ ss)
+unfolding answerOf
+after-sound b [] ss g e = refl
+after-sound b (r ∷ rs) ss g e = go (firstPlace r) e (λ q. after-sound (r .number) rs ss (g .1) q)
+  where
+    go : (f : Found) → accepted ≡ orElse (r .number) f (answerOf rs) → (accepted ≡ answerOf rs → answerOf ss ≡ answerOf (rs ++ ss))
+        → answerOf ss ≡ orElse (r .number) f (answerOf (rs ++ ss))
+    go (At q) e ih = absurd (let z : 0 ≡ r .number = ap (λ (a : Answer). a .number) e in omega (arith, g .0))
+    go Nowhere e ih = ih e

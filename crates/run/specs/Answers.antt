@@ -1,0 +1,46 @@
+-- The answers to a run: the number and place of each, and what each promises.
+use mathlib.Core.Path.{_≡_}
+use mathlib.Core.List.{List}
+use Prim.Native.Nat.{ℕ}
+use lib.ListN.{length, replicate}
+use Rattle.order.specs.Rules.{accepted, answerOf}
+use Rattle.order.specs.declared.Answer.{Answer}
+use Rattle.image.specs.Layout.{breachNumbers}
+use Rattle.rules.specs.declared.End.{End}
+use Rattle.rules.specs.Run.{runOf, heapAfter}
+use Rattle.rules.specs.Numbers.{runRules, endNumbers}
+use Rattle.run.specs.declared.Refusal.{Refusal}
+use Rattle.run.specs.declared.Refusal.the-variants.{Layout, Fields, HeapLength, HeapWord, Input, Depth, Room}
+use Rattle.run.specs.declared.Ran.{Ran}
+use Rattle.run.specs.declared.Ran.the-variants.{Refused, Ended as Over}
+
+abbrev pub refusalNumbers : Refusal → Answer
+refusalNumbers (Layout b) = breachNumbers b
+refusalNumbers (Fields p) = record { number = 10; place = p }
+refusalNumbers HeapLength = record { number = 14; place = 0 }
+refusalNumbers (HeapWord p) = record { number = 15; place = p }
+refusalNumbers (Input p) = record { number = 16; place = p }
+refusalNumbers Depth = record { number = 19; place = 0 }
+refusalNumbers Room = record { number = 20; place = 0 }
+
+abbrev pub ranNumbers : Ran → Answer
+ranNumbers (Refused f) = refusalNumbers f
+ranNumbers (Over e k) = endNumbers e
+
+module _ (ws hs is lent : List ℕ) (steps depth : ℕ) where
+  -- a refusal tells the first breach, and changes no word; an end tells the definition's run, and clears the room
+  pub record Refuses (f : Refusal) (heap' room' : List ℕ) : Type 0 where
+    pub numbers : refusalNumbers f ≡ answerOf (runRules ws hs is (length lent) depth)
+    pub heap : heap' ≡ hs
+    pub room : room' ≡ lent
+
+  pub record Ends (e : End) (k : ℕ) (heap' room' : List ℕ) : Type 0 where
+    pub sound : answerOf (runRules ws hs is (length lent) depth) ≡ accepted
+    pub end : e ≡ runOf ws hs is steps depth .end
+    pub count : k ≡ runOf ws hs is steps depth .count
+    pub heap : heap' ≡ heapAfter (runOf ws hs is steps depth)
+    pub room : room' ≡ replicate (length lent) 0
+
+  abbrev pub Answers : Ran → (heap' room' : List ℕ) → Type 0
+  Answers (Refused f) heap' room' = Refuses f heap' room'
+  Answers (Over e k) heap' room' = Ends e k heap' room'

@@ -1,0 +1,6 @@
+-- The answers to a run, and the room as it begins.
+pub mod Answers
+pub mod Start
+-- Laws.
+pub mod Laws
+pub mod Promise

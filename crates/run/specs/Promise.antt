@@ -1,0 +1,1 @@
+-- The run's promise, for the reader.
