@@ -2,6 +2,7 @@
 use mathlib.Core.Path.{_≡_, refl}
 use Prim.Native.Nat.{ℕ, zero, suc, _<_}
 use native.Mathlib.Omega.{arith}
+use Rattle.image.specs.declared.Kind.the-variants.{Value as Literal}
 use Rattle.image.specs.Nodes.{kindOf, operands}
 use Rattle.room.specs.Room.{first, shapeOf}
 use Rattle.room.specs.Nodes.{Still}
@@ -83,3 +84,24 @@ still-kind (suc (suc (suc (suc (suc (suc (suc (suc (suc (suc (suc (suc (suc zero
 still-kind (suc (suc (suc (suc (suc (suc (suc (suc (suc (suc (suc (suc (suc (suc zero)))))))))))))) h a b c = tt
 still-kind (suc (suc (suc (suc (suc (suc (suc (suc (suc (suc (suc (suc (suc (suc (suc zero))))))))))))))) h a b c = tt
 still-kind (suc (suc (suc (suc (suc (suc (suc (suc (suc (suc (suc (suc (suc (suc (suc (suc k)))))))))))))))) h a b c = absurd (omega arith)
+
+-- only 2 is the number of literals
+pub not-literal-kind : (k : ℕ) → (k ≡ 2 → ⊥) → kindOf k ≡ Literal → ⊥
+unfolding kindOf
+not-literal-kind zero d e = let z : _≡_ {A = ℕ} 0 1 = cc in omega arith
+not-literal-kind (suc zero) d e = let z : _≡_ {A = ℕ} 0 1 = cc in omega arith
+not-literal-kind (suc (suc zero)) d e = d refl
+not-literal-kind (suc (suc (suc zero))) d e = let z : _≡_ {A = ℕ} 0 1 = cc in omega arith
+not-literal-kind (suc (suc (suc (suc zero)))) d e = let z : _≡_ {A = ℕ} 0 1 = cc in omega arith
+not-literal-kind (suc (suc (suc (suc (suc zero))))) d e = let z : _≡_ {A = ℕ} 0 1 = cc in omega arith
+not-literal-kind (suc (suc (suc (suc (suc (suc zero)))))) d e = let z : _≡_ {A = ℕ} 0 1 = cc in omega arith
+not-literal-kind (suc (suc (suc (suc (suc (suc (suc zero))))))) d e = let z : _≡_ {A = ℕ} 0 1 = cc in omega arith
+not-literal-kind (suc (suc (suc (suc (suc (suc (suc (suc zero)))))))) d e = let z : _≡_ {A = ℕ} 0 1 = cc in omega arith
+not-literal-kind (suc (suc (suc (suc (suc (suc (suc (suc (suc zero))))))))) d e = let z : _≡_ {A = ℕ} 0 1 = cc in omega arith
+not-literal-kind (suc (suc (suc (suc (suc (suc (suc (suc (suc (suc zero)))))))))) d e = let z : _≡_ {A = ℕ} 0 1 = cc in omega arith
+not-literal-kind (suc (suc (suc (suc (suc (suc (suc (suc (suc (suc (suc zero))))))))))) d e = let z : _≡_ {A = ℕ} 0 1 = cc in omega arith
+not-literal-kind (suc (suc (suc (suc (suc (suc (suc (suc (suc (suc (suc (suc zero)))))))))))) d e = let z : _≡_ {A = ℕ} 0 1 = cc in omega arith
+not-literal-kind (suc (suc (suc (suc (suc (suc (suc (suc (suc (suc (suc (suc (suc zero))))))))))))) d e = let z : _≡_ {A = ℕ} 0 1 = cc in omega arith
+not-literal-kind (suc (suc (suc (suc (suc (suc (suc (suc (suc (suc (suc (suc (suc (suc zero)))))))))))))) d e = let z : _≡_ {A = ℕ} 0 1 = cc in omega arith
+not-literal-kind (suc (suc (suc (suc (suc (suc (suc (suc (suc (suc (suc (suc (suc (suc (suc zero))))))))))))))) d e = let z : _≡_ {A = ℕ} 0 1 = cc in omega arith
+not-literal-kind (suc (suc (suc (suc (suc (suc (suc (suc (suc (suc (suc (suc (suc (suc (suc (suc k)))))))))))))))) d e = let z : _≡_ {A = ℕ} 0 1 = cc in omega arith

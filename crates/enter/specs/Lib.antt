@@ -3,3 +3,5 @@ pub mod Turns
 -- Laws.
 pub mod Kinds
 pub mod EnterLaws
+pub mod TakeUp
+pub mod Beyond
