@@ -4,4 +4,5 @@ pub mod Turns
 pub mod Kinds
 pub mod EnterLaws
 pub mod TakeUp
+pub mod ArmedLaws
 pub mod Beyond
