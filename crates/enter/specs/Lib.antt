@@ -6,3 +6,4 @@ pub mod EnterLaws
 pub mod TakeUp
 pub mod ArmedLaws
 pub mod Beyond
+pub mod NewLaws
