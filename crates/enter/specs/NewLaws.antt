@@ -2,11 +2,13 @@
 use mathlib.Core.Path.{_≡_, refl, sym, _∙_, ap}
 use mathlib.Core.Bool.{true}
 use mathlib.Core.List.{List}
-use Prim.Native.Nat.{ℕ, suc, _+_, _*_, _/_, _^_, _≤_, _<_}
+use Prim.Native.Nat.{ℕ, suc, _+_, _*_, _-_, _/_, _^_, _≤_, _<_}
 use native.Mathlib.Omega.{arith}
 use native.Mathlib.Decide.{ℕ-discrete}
 use lib.ListN.{length, getD, set, length-set}
 use lib.Seq.{getD-set-same, getD-set-other}
+use Rattle.order.specs.declared.Found.the-variants.{At, Nowhere}
+use Rattle.order.specs.Rules.{scan}
 use Rattle.words.specs.declared.Value.the-variants.{Addr}
 use Rattle.words.specs.Value.{addresses, wordOf}
 use Rattle.image.specs.Numbers.{variables}
@@ -24,6 +26,7 @@ use Rattle.laws.specs.Frames.{step-new}
 use Rattle.heap.specs.Slots.{takenAt}
 use Rattle.redexes.specs.TagLaws.{word-value}
 use Rattle.objects.specs.Made.{Made, Opens}
+use Rattle.objects.specs.MadeLaws.{opened}
 use Rattle.room.specs.declared.Focus.the-variants.{Node, Value, Thrown}
 use Rattle.room.specs.Room.{searchWord, frameAt, storeOf, loaded, frames, Fit}
 use Rattle.room.specs.RoomLaws.{store-same, ok-same, set-frames}
@@ -34,6 +37,15 @@ use Rattle.room.specs.Nodes.{node-goes}
 pub address-word : (a : ℕ) → a < addresses → IsValue (4 * 2 ^ 32 + a) × (valueAt (4 * 2 ^ 32 + a) ≡ Addr a)
 unfolding wordOf
 address-word a h = (word-value (Addr a) h, written-same (Addr a) h)
+
+-- what the search from there finds
+module _ (ws hs : List ℕ) (from : ℕ) (ok : HeapOk ws hs from) (c : ℕ) where
+  pub new-opens : (a : ℕ) → At a ≡ scan (takenAt hs) (length hs / slotWords - from) from → Opens ws hs c from a
+  new-opens a e = opened ws hs (ok .words) c from (ok .low) (ok .taken) (ok .size) (At a) e
+
+  pub new-full : Nowhere ≡ scan (takenAt hs) (length hs / slotWords - from) from
+      → newRedex (program ws) (heapOf (program ws) hs) c (lowestFree (heapOf (program ws) hs)) ≡ raises outOfMemory
+  new-full e = opened ws hs (ok .words) c from (ok .low) (ok .taken) (ok .size) Nowhere e
 
 -- A write to the word of New's search leaves variables and frames as they were.
 module _ (ws room : List ℕ) (w : ℕ) where

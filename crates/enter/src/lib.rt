@@ -8,13 +8,25 @@ ghost use Rattle.image.specs.Nodes.{nodeWord, kindOf, operands};
 ghost use Rattle.image.specs.Layout.{Good};
 ghost use Rattle.room.specs.declared.Focus.the-variants.{Node};
 ghost use Rattle.laws.specs.Values.{IsValue};
-ghost use Rattle.room.specs.Room.{frameAt, first, shapeOf, Fit};
+ghost use Rattle.heap.specs.Rows.{Rows};
+ghost use Rattle.room.specs.Room.{searchWord, frameAt, first, shapeOf, Fit};
 ghost use Rattle.room.specs.RoomLaws.{push, push3, pushBlock};
+ghost use Rattle.room.specs.Turn.{HeapOk, Inv, Turned};
 ghost use Rattle.room.specs.Armed.{armed, armedSeq};
 ghost use Rattle.enter.specs.Turns.{Turns, Within, Past, restOf};
 use image::Layout;
+use order::Found;
 use room::Focus;
 use room::Go;
+
+// A value's tag stands above the 32 bits of its payload. An address has tag 4.
+const ADDRESS: u64 = 17179869184;
+
+// The address of the exception that New throws when no slot is free.
+const OUT_OF_MEMORY: usize = 2;
+
+// Where New's search goes on.
+const SEARCH: usize = 64;
 
 // Where the first frame begins, and the words of one.
 const FRAMES: usize = 80;
@@ -223,5 +235,68 @@ fn beyond(ws: &[u32], lay: Layout, room: &mut [u64], n: usize, l: usize, kind: u
         6 => beyond_assign(ws, lay, room, n, l),
         11 => beyond_seq(ws, lay, room, n, l),
         _ => Go::Deep,
+    }
+}
+
+// New: an object in the lowest free slot. The slots below the one where the search goes on are taken.
+fn enter_new(
+    ws: &[u32],
+    lay: Layout,
+    counts: &[usize],
+    types: &[u32],
+    heap: &mut [u64],
+    room: &mut [u64],
+    may: bool,
+    n: usize,
+    l: usize,
+) -> Go
+    requires { ⌜ Good (now ws) lay × Rows (now ws) (now counts) (now types) × (n < lay .«node_count») × (frameAt l ≤ length (now room)) × (nodeWord (now ws) n 0 ≡ 0) × HeapOk (now ws) (now heap) (getD (now room) searchWord 0) ⌝ }
+    ensures { λ r. ⌜ ((D : ℕ) → Inv (now (ws .entry)) D (now (room .entry)) l (Node n) → l ≤ D → Turned (now (ws .entry)) D may (now (heap .entry)) (now (room .entry)) l (Node n) (now (heap .exit)) (now (room .exit)) r) ⌝ }
+{
+    let from = room[SEARCH] as usize;
+    match heap::lowest_free(heap, from) {
+        Found::Nowhere => Go::Stepped(Focus::Thrown(OUT_OF_MEMORY, n), l),
+        Found::At(a) => {
+            if !may {
+                return Go::Limit;
+            }
+            let c = image::node_word(ws, lay, n, 2) as usize;
+            objects::new_object(ws, lay, counts, types, heap, a, c);
+            room[SEARCH] = (a + 1) as u64;
+            Go::Stepped(Focus::Value(ADDRESS + a as u64), l)
+        }
+    }
+}
+
+// Goes into node n, under l frames.
+pub fn enter(
+    ws: &[u32],
+    lay: Layout,
+    counts: &[usize],
+    types: &[u32],
+    heap: &mut [u64],
+    room: &mut [u64],
+    depth: usize,
+    may: bool,
+    n: usize,
+    l: usize,
+) -> Go
+    requires { ⌜ Good (now ws) lay × Rows (now ws) (now counts) (now types) × Inv (now ws) depth (now room) l (Node n) × HeapOk (now ws) (now heap) (getD (now room) searchWord 0) ⌝ }
+    ensures { λ r. ⌜ Turned (now (ws .entry)) depth may (now (heap .entry)) (now (room .entry)) l (Node n) (now (heap .exit)) (now (room .exit)) r ⌝ }
+{
+    let kind = image::node_word(ws, lay, n, 0);
+    if kind == LITERAL {
+        return Go::Moved(Focus::Value(redexes::literal_word(ws, lay, n)), l);
+    }
+    if depth < l {
+        return beyond(ws, lay, room, n, l, kind);
+    }
+    match kind {
+        0 => enter_new(ws, lay, counts, types, heap, room, may, n, l),
+        3 => enter_var(ws, lay, room, n, l),
+        9 => enter_call(ws, lay, room, n, l),
+        10 => enter_block(ws, lay, room, n, l),
+        13 => enter_while(ws, lay, room, n, l),
+        _ => enter_first(ws, lay, room, n, l, kind),
     }
 }
