@@ -1,30 +1,26 @@
 -- Laws of nodes that are too deep: an assignment or a sequence that gives no block a value to take up.
-use mathlib.Core.Path.{_≡_, refl, sym, _∙_, ap}
+use mathlib.Core.Path.{_≡_, refl}
 use mathlib.Core.Bool.{Bool, true, false, cond}
-use mathlib.Core.Option.{Option, none, some}
+use mathlib.Core.Option.{none}
 use mathlib.Core.List.{List, _∷_}
-use Prim.Native.Nat.{ℕ, zero, suc, _-_, _≤_, _<_}
+use Prim.Native.Nat.{ℕ, zero, suc, _-_, _<_}
 use native.Mathlib.Omega.{arith}
 use lib.Dec.{eqb}
-use Rattle.words.specs.declared.Value.{Value}
 use Rattle.words.specs.Types.{typeOf}
 use Rattle.words.specs.Value.{valueWith}
-use Rattle.image.specs.declared.Kind.{Kind}
-use Rattle.image.specs.declared.Kind.the-variants.{New, Cast, Value as Literal, Var, Add, Eq, Assign, Get, Set, Call, Block, Seq, If, While, Throw, Try, Unknown}
-use Rattle.image.specs.Numbers.{variables}
 use Rattle.image.specs.Trailer.{nodeCount}
 use Rattle.image.specs.Nodes.{nodeWord, kindOf, nodeHolds}
-use Rattle.rules.specs.Trees.{Expr, val, assign, seq, operand, written, nodeOf, tree}
-use Rattle.rules.specs.Step.{Store, View, view, valueIn, assigned, bare, load}
-use Rattle.laws.specs.Trees.{known, operand-below}
-use Rattle.laws.specs.Frames.{Frame, seqF, plug, outer, begun, Plain, Quiet, quiet-plain}
+use Rattle.rules.specs.Trees.{Expr, assign, seq, operand, written, nodeOf, tree}
+use Rattle.rules.specs.Step.{view, valueIn, assigned, load}
+use Rattle.laws.specs.Trees.{operand-below}
+use Rattle.laws.specs.Frames.{seqF, plug, outer, begun, Quiet, quiet-plain}
 use Rattle.room.specs.declared.Focus.the-variants.{Node}
 use Rattle.room.specs.Room.{storeOf, loaded, operandOf, frames}
 use Rattle.room.specs.Stack.{Beyond, assign-plain}
 use Rattle.room.specs.Turn.{finds, Inv}
 use Rattle.room.specs.Enter.{loaded-node}
 use Rattle.room.specs.Armed.{armed, armedSeq, armed-not, armedSeq-not}
-use Rattle.room.specs.Nodes.{Still, quiet-node, not-literal, assign-local, kind-below, view-blocked, deep, deep-still}
+use Rattle.room.specs.Nodes.{not-literal, assign-local, kind-below, view-blocked, deep, deep-still}
 use Rattle.enter.specs.Kinds.{still-kind, not-literal-kind}
 use Rattle.enter.specs.EnterLaws.{seq-operand}
 use Rattle.enter.specs.TakeUp.{loaded-assign, loaded-seq, written-assign}

@@ -1,10 +1,9 @@
 -- Laws of nodes that are gone into: which operands they have, and turns as the functions promise them.
-use mathlib.Core.Path.{_≡_, refl}
+use mathlib.Core.Path.{_≡_}
 use mathlib.Core.List.{List}
 use mathlib.Core.Bool.{true}
-use Prim.Native.Nat.{ℕ, suc, _+_, _-_, _≤_, _<_}
+use Prim.Native.Nat.{ℕ, suc, _<_}
 use native.Mathlib.Omega.{arith}
-use lib.ListN.{getD}
 use Rattle.image.specs.declared.Layout.{Layout}
 use Rattle.image.specs.Trailer.{nodeCount}
 use Rattle.image.specs.Nodes.{nodeWord, kindOf, operands, nodeHolds}

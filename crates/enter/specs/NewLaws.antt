@@ -1,5 +1,5 @@
 -- Laws of New: an object is made in the lowest free slot, and New's search goes on behind it.
-use mathlib.Core.Path.{_≡_, refl, sym, _∙_, ap}
+use mathlib.Core.Path.{_≡_, refl, _∙_, ap}
 use mathlib.Core.Bool.{true}
 use mathlib.Core.List.{List}
 use Prim.Native.Nat.{ℕ, suc, _+_, _*_, _-_, _/_, _^_, _≤_, _<_}
@@ -11,7 +11,6 @@ use Rattle.order.specs.declared.Found.the-variants.{At, Nowhere}
 use Rattle.order.specs.Rules.{scan}
 use Rattle.words.specs.declared.Value.the-variants.{Addr}
 use Rattle.words.specs.Value.{addresses, wordOf}
-use Rattle.image.specs.Numbers.{variables}
 use Rattle.image.specs.Trailer.{nodeCount}
 use Rattle.image.specs.Nodes.{nodeWord, kindOf, nodeHolds}
 use Rattle.rules.specs.Trees.{new}
@@ -28,7 +27,7 @@ use Rattle.redexes.specs.TagLaws.{word-value}
 use Rattle.objects.specs.Made.{Made, Opens}
 use Rattle.objects.specs.MadeLaws.{opened}
 use Rattle.room.specs.declared.Focus.the-variants.{Node, Value, Thrown}
-use Rattle.room.specs.Room.{searchWord, frameAt, storeOf, loaded, frames, Fit}
+use Rattle.room.specs.Room.{searchWord, storeOf, loaded, Fit}
 use Rattle.room.specs.RoomLaws.{store-same, ok-same, set-frames}
 use Rattle.room.specs.Turn.{HeapOk, focusOf, Inv, Steps, Could}
 use Rattle.room.specs.Nodes.{node-goes}

@@ -1,29 +1,27 @@
 -- Laws of values that are taken up: an assignment of a value below a sequence, and a sequence that begins with one.
-use mathlib.Core.Path.{_≡_, refl, sym, _∙_, ap}
-use mathlib.Core.Bool.{Bool, true, false, cond}
-use mathlib.Core.List.{List, _∷_}
+use mathlib.Core.Path.{_≡_, refl, _∙_, ap}
+use mathlib.Core.Bool.{true}
+use mathlib.Core.List.{List}
 use mathlib.Core.Logic.{_⊎_, inl, inr}
-use Prim.Native.Nat.{ℕ, zero, suc, _+_, _*_, _-_, _≤_, _<_}
+use Prim.Native.Nat.{ℕ, suc, _+_, _-_, _<_}
 use native.Mathlib.Omega.{arith}
-use lib.Dec.{eqb}
-use lib.ListN.{length, getD, set}
-use borrow.Author.Tests.{eq-eqb, ne-eqb}
+use lib.ListN.{set}
 use Rattle.words.specs.Value.{valueWith}
 use Rattle.image.specs.Numbers.{variables}
 use Rattle.image.specs.Trailer.{nodeCount}
 use Rattle.image.specs.Nodes.{nodeWord, kindOf, operands, nodeHolds}
-use Rattle.rules.specs.Trees.{Expr, val, assign, seq, operand, written, nodeOf, tree}
-use Rattle.rules.specs.Step.{Store, blocked, load, bare}
+use Rattle.rules.specs.Trees.{assign, seq, operand, written}
+use Rattle.rules.specs.Step.{load, bare}
 use Rattle.laws.specs.Values.{valueAt, IsValue}
 use Rattle.laws.specs.Trees.{operandCount, operand-below, operand-after, operand-first, node-size, tree-value, tree-assign, tree-seq}
-use Rattle.laws.specs.Frames.{Frame, assignF, seqF, plug, outer, plugs, outers}
+use Rattle.laws.specs.Frames.{seqF, plug, outer, plugs, outers}
 use Rattle.room.specs.declared.Focus.{Focus}
 use Rattle.room.specs.declared.Focus.the-variants.{Node}
-use Rattle.room.specs.Room.{storeOf, shapeOf, loaded, operandOf, word, tag, frame, frames, FrameOk, Fit}
-use Rattle.room.specs.Turn.{focusOf, weight, behind, pending, phi, whole, outside, Inv, Moves}
+use Rattle.room.specs.Room.{shapeOf, loaded, operandOf, word, tag, frame, frames, Fit}
+use Rattle.room.specs.Turn.{focusOf, weight, behind, pending, Inv, Moves}
 use Rattle.room.specs.Armed.{armed, armedSeq, frame-seq, frame-loop, Takes, armed-block, armedSeq-frames, takes-up}
 use Rattle.enter.specs.Turns.{restOf, Writes}
-use Rattle.enter.specs.EnterLaws.{assign-operand, seq-operand, while-operand, not-first}
+use Rattle.enter.specs.EnterLaws.{seq-operand, while-operand, not-first}
 
 module _ (ws : List ℕ) (good : (n : ℕ) → n < nodeCount ws → nodeHolds ws n ≡ true) where
   -- the trees of an assignment and of a sequence
@@ -70,18 +68,18 @@ module _ (ws : List ℕ) (good : (n : ℕ) → n < nodeCount ws → nodeHolds ws
     -- frame j + 1 goes on with the node m
     module _ (j m : ℕ)
         (b : behind ws (shapeOf (tag ws room (suc j))) (tag ws room (suc j)) (word ws room (suc j) 1) (word ws room (suc j) 2) ≡ nodeWord ws m 1)
-        where
-      pending-rest : pending ws room (suc (suc j)) ≡ nodeWord ws m 1 + pending ws room (suc j)
-      unfolding pending
-      pending-rest = rw b
+      where
+        pending-rest : pending ws room (suc (suc j)) ≡ nodeWord ws m 1 + pending ws room (suc j)
+        unfolding pending
+        pending-rest = rw b
 
-      rest-up : (x w q : ℕ) → Writes ws D room k f (suc j) x w → Takes ws room j x → x < variables → IsValue w
-          → frame ws room (suc j) ≡ seqF q (loaded ws m) → m < nodeCount ws
-          → Moves ws D room k f (set room x (suc w)) (suc j) (Node m)
-      unfolding frames weight outers outer
-      rest-up x w q s t local v e h =
-          takes-up ws D room k j f (s .inv) x w q (s .place) (s .value-place) m t (omega (arith, s .under)) local v h
-          (rw e at (s .same)) (rw e at (s .around)) (omega (arith, s .more, pending-rest))
+        rest-up : (x w q : ℕ) → Writes ws D room k f (suc j) x w → Takes ws room j x → x < variables → IsValue w
+            → frame ws room (suc j) ≡ seqF q (loaded ws m) → m < nodeCount ws
+            → Moves ws D room k f (set room x (suc w)) (suc j) (Node m)
+        unfolding frames weight outers outer
+        rest-up x w q s t local v e h =
+            takes-up ws D room k j f (s .inv) x w q (s .place) (s .value-place) m t (omega (arith, s .under)) local v h
+            (rw e at (s .same)) (rw e at (s .around)) (omega (arith, s .more, pending-rest))
 
     seq-up : (j x w : ℕ) → Writes ws D room k f (suc j) x w → Takes ws room j x → x < variables → IsValue w
         → Fit ws room (suc (suc j)) → tag ws room (suc j) ≡ 11

@@ -145,7 +145,11 @@ fn enter_var(ws: &[u32], lay: Layout, room: &[u64], n: usize, l: usize) -> Go
 {
     let x = image::node_word(ws, lay, n, 2) as usize;
     let w = room[x];
-    if w == 0 { Go::Stuck(n) } else { Go::Stepped(Focus::Value(w - 1), l) }
+    if w == 0 {
+        Go::Stuck(n)
+    } else {
+        Go::Stepped(Focus::Value(w - 1), l)
+    }
 }
 
 // Whether the innermost of l frames is a block's of the variable x, which is unset.
@@ -170,7 +174,11 @@ pub fn armed_seq(room: &[u64], l: usize, x: usize) -> bool
     }
     let i = l - 1;
     let tag = room[FRAMES + FRAME_WORDS * i];
-    if (tag == SEQ) | (tag == LOOP) { armed(room, i, x) } else { false }
+    if (tag == SEQ) | (tag == LOOP) {
+        armed(room, i, x)
+    } else {
+        false
+    }
 }
 
 // A block takes the value of w up: its variable x is set. The answer is the node with which the sequence or loop of frame i

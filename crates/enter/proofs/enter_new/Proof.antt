@@ -1,87 +1,66 @@
-use Rattle.enter.specs.NewLaws.{new-opens, new-full, new-could, new-throws, new-steps}
+-- `enter::enter_new` meets its contract.
+use Prim.Native.Nat.{ℕ}
+use Rattle.enter.proofs.enter_new.Statement.{statement}
 use Rattle.enter.specs.EnterLaws.{holds-at}
-use Rattle.room.specs.Nodes.{new-class}
+use Rattle.enter.specs.NewLaws.{new-could, new-full, new-opens, new-steps, new-throws}
 use Rattle.objects.specs.Made.{Opens}
-use borrow.Author.Tests.{not-true, not-false}
+use Rattle.room.specs.Nodes.{new-class}
+use borrow.Author.Needs.{needs}
+use borrow.Author.Tests.{not-false, not-true}
+use mathlib.Core.Bool.{false, true}
+use mathlib.Core.Path.{_∙_, _≡_, refl, sym}
 use native.Mathlib.Numerals.{add-one}
 use native.Mathlib.Omega.{arith}
-use Prim.Native.Nat.{ℕ}
-use mathlib.Core.Bool.{true, false}
-use mathlib.Core.Path.{_≡_, refl, sym, _∙_}
-use borrow.Author.Needs.{needs}
-use Rattle.enter.proofs.enter_new.Statement.{statement}
 use Rattle.enter.proofs.enter_new.Tie as tie
-use Rattle.enter.proofs.enter_new.Reads as reads
-use Rattle.enter.proofs.enter_new.Lts as lts
-use Rattle.heap.proofs.lowest_free.Reads as lowest-free-reads
-use Rattle.image.proofs.node_word.Reads as node-word-reads
-use Rattle.objects.proofs.new_object.Reads as new-object-reads
 
--- src/lib.rt:256:16
 slice-read-from : tie.Need-slice-read-from
 slice-read-from c = search needs
 
--- src/lib.rt:257:11
 lowest-free-requires : tie.Need-lowest-free-requires
 lowest-free-requires c κs = search needs
 
--- src/lib.rt:258:39
 enum-told : tie.Need-enum-told
 enum-told c = search needs
 
--- src/lib.rt:259:19
 enum-known-a : tie.Need-enum-known-a
 enum-known-a c = search needs
 
--- src/lib.rt:261:17
 same-length : tie.Need-same-length
 same-length c = search needs
 
--- src/lib.rt:261:17
 returns : tie.Need-returns
 returns c = let p = c .before .before .before .before .before .before .before .before .before .before .before .before .pre in λ D inv low. (new-could _ (p .0 .nodes) D _ _ _ _ inv low (p .4) (p .5) _ _ (new-opens _ _ _ (p .5) _ _ (rw (c .before .before .a .given .1) at (c .before .before .before .before .lowest-free .ensures))), not-true _ (c .if1 .taken), refl)
 
--- src/lib.rt:263:21
 node-word-requires : tie.Need-node-word-requires
 node-word-requires c κs = search needs
 
--- src/lib.rt:263:21
 cast-c : tie.Need-cast-c
 cast-c c = search needs
 
--- src/lib.rt:264:13
 new-object-requires : tie.Need-new-object-requires
 new-object-requires c κs = let p = c .before .before .before .before .before .before .before .before .before .before .before .before .before .before .pre in let o : Opens _ _ 0 _ _ = (new-opens _ _ _ (p .5) _ _ (rw (c .before .before .before .before .a .given .1) at (c .before .before .before .before .before .before .lowest-free .ensures))) in (p .0, p .1, p .5 .words, rw (c .before .node-word .ensures, p .0 .lay .class-count) (new-class _ _ (holds-at (p .0) (p .2)) (p .4)), o .inside, o .empty)
 
--- src/lib.rt:265:29
 add-room : tie.Need-add-room
 add-room c = let p = c .before .before .before .before .before .before .before .before .before .before .before .before .before .before .before .before .before .pre in let o : Opens _ _ 0 _ _ = (new-opens _ _ _ (p .5) _ _ (rw (c .before .before .before .before .before .before .before .a .given .1) at (c .before .before .before .before .before .before .before .before .before .lowest-free .ensures))) in omega (arith, o .known)
 
--- src/lib.rt:265:13
 slice-write-room : tie.Need-slice-write-room
 slice-write-room c = search needs
 
--- src/lib.rt:266:38
 add-t28 : tie.Need-add-t28
 add-t28 c = let p = c .before .before .before .before .before .before .before .before .before .before .before .before .before .before .before .before .before .pre in let o : Opens _ _ 0 _ _ = (new-opens _ _ _ (p .5) _ _ (rw (c .before .before .before .before .before .before .before .a .given .1) at (c .before .before .before .before .before .before .before .before .before .lowest-free .ensures))) in omega (arith, o .known)
 
--- src/lib.rt:242:1
 same-length-2 : tie.Need-same-length-2
 same-length-2 c = search needs
 
--- src/lib.rt:242:1
 returns-2 : tie.Need-returns-2
 returns-2 c = let p = c .before .before .before .before .before .before .before .before .before .before .pre in λ D inv low. (new-throws _ (p .0 .nodes) D _ _ _ _ inv low (p .4) (p .5) (new-full _ _ _ (p .5) _ (rw (c .enum-told .given .1) at (c .before .before .lowest-free .ensures))), λ e. refl)
 
--- src/lib.rt:242:1
 same-length-3 : tie.Need-same-length-3
 same-length-3 c = search needs
 
--- src/lib.rt:242:1
 same-length-4 : tie.Need-same-length-4
 same-length-4 c = search needs
 
--- src/lib.rt:242:1
 returns-3 : tie.Need-returns-3
 returns-3 c = let p = c .before .before .before .before .before .before .before .before .before .before .before .before .before .before .before .before .before .pre in λ D inv low. (rw (add-one (c .before .before .before .before .before .before .before .a .given .0 .0)) (new-steps _ (p .0 .nodes) D _ _ _ _ inv low (p .4) (p .5) _ _ (new-opens _ _ _ (p .5) _ _ (rw (c .before .before .before .before .before .before .before .a .given .1) at (c .before .before .before .before .before .before .before .before .before .lowest-free .ensures))) _ (rw (c .before .before .before .before .node-word .ensures) at (c .before .before .new-object .ensures))), λ e. absurd (let z : true ≡ false = sym (not-false _ (c .before .before .before .before .before .if1 .left)) ∙ e in let y : _≡_ {A = ℕ} 0 1 = cc in omega arith))
 
