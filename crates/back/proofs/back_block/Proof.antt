@@ -1,0 +1,70 @@
+use borrow.Author.Needs.{needs}
+use Rattle.back.proofs.back_block.Statement.{statement}
+use Rattle.back.proofs.back_block.Tie as tie
+use Rattle.back.proofs.back_block.Reads as reads
+use Rattle.back.proofs.back_block.Lts as lts
+
+-- src/lib.rt:125:23
+mul-at : tie.Need-mul-at
+mul-at c = search needs
+
+-- src/lib.rt:125:14
+add-at : tie.Need-add-at
+add-at c = search needs
+
+-- src/lib.rt:126:18
+add-x : tie.Need-add-x
+add-x c = search needs
+
+-- src/lib.rt:126:13
+mul-x : tie.Need-mul-x
+mul-x c = search needs
+
+-- src/lib.rt:126:13
+slice-read-x : tie.Need-slice-read-x
+slice-read-x c = search needs
+
+-- src/lib.rt:127:20
+add-room : tie.Need-add-room
+add-room c = search needs
+
+-- src/lib.rt:127:15
+mul-room : tie.Need-mul-room
+mul-room c = search needs
+
+-- src/lib.rt:127:15
+slice-read-room : tie.Need-slice-read-room
+slice-read-room c = search needs
+
+-- src/lib.rt:127:5
+mul-room-2 : tie.Need-mul-room-2
+mul-room-2 c = search needs
+
+-- src/lib.rt:127:5
+slice-write-room : tie.Need-slice-write-room
+slice-write-room c = search needs
+
+-- src/lib.rt:121:1
+same-length : tie.Need-same-length
+same-length c = search needs
+
+-- src/lib.rt:121:1
+returns : tie.Need-returns
+returns c = ?
+
+pub back-block-spec : {M : Type 1} → statement M
+back-block-spec =
+    tie.close
+    (tie.spec
+    mul-at
+    add-at
+    add-x
+    mul-x
+    slice-read-x
+    add-room
+    mul-room
+    slice-read-room
+    mul-room-2
+    slice-write-room
+    same-length
+    returns)

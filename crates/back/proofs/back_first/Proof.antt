@@ -1,0 +1,70 @@
+use borrow.Author.Needs.{needs}
+use Rattle.back.proofs.back_first.Statement.{statement}
+use Rattle.back.proofs.back_first.Tie as tie
+use Rattle.back.proofs.back_first.Reads as reads
+use Rattle.back.proofs.back_first.Lts as lts
+
+-- src/lib.rt:114:23
+mul-at : tie.Need-mul-at
+mul-at c = search needs
+
+-- src/lib.rt:114:14
+add-at : tie.Need-add-at
+add-at c = search needs
+
+-- src/lib.rt:115:16
+add-room : tie.Need-add-room
+add-room c = ?
+
+-- src/lib.rt:115:5
+mul-room : tie.Need-mul-room
+mul-room c = search needs
+
+-- src/lib.rt:115:5
+slice-write-room : tie.Need-slice-write-room
+slice-write-room c = search needs
+
+-- src/lib.rt:116:10
+add-room-2 : tie.Need-add-room-2
+add-room-2 c = search needs
+
+-- src/lib.rt:116:5
+mul-room-2 : tie.Need-mul-room-2
+mul-room-2 c = search needs
+
+-- src/lib.rt:116:5
+slice-write-room-2 : tie.Need-slice-write-room-2
+slice-write-room-2 c = ?
+
+-- src/lib.rt:117:27
+sub-t7 : tie.Need-sub-t7
+sub-t7 c = search needs
+
+-- src/lib.rt:117:35
+add-t10 : tie.Need-add-t10
+add-t10 c = search needs
+
+-- src/lib.rt:110:1
+same-length : tie.Need-same-length
+same-length c = search needs
+
+-- src/lib.rt:110:1
+returns : tie.Need-returns
+returns c = ?
+
+pub back-first-spec : {M : Type 1} → statement M
+back-first-spec =
+    tie.close
+    (tie.spec
+    mul-at
+    add-at
+    add-room
+    mul-room
+    slice-write-room
+    add-room-2
+    mul-room-2
+    slice-write-room-2
+    sub-t7
+    add-t10
+    same-length
+    returns)

@@ -1,0 +1,39 @@
+use borrow.Author.Needs.{needs}
+use Rattle.back.proofs.back_throw.Statement.{statement}
+use Rattle.back.proofs.back_throw.Tie as tie
+use Rattle.back.proofs.back_throw.Reads as reads
+use Rattle.back.proofs.back_throw.Lts as lts
+use Rattle.redexes.proofs.throw_redex.Reads as throw-redex-reads
+
+-- src/lib.rt:163:11
+throw-redex-requires : tie.Need-throw-redex-requires
+throw-redex-requires c κs = search needs
+
+-- src/lib.rt:164:25
+enum-known-a : tie.Need-enum-known-a
+enum-known-a c = search needs
+
+-- src/lib.rt:165:37
+enum-told : tie.Need-enum-told
+enum-told c = search needs
+
+-- src/lib.rt:166:26
+enum-told-2 : tie.Need-enum-told-2
+enum-told-2 c = search needs
+
+-- src/lib.rt:159:1
+returns : tie.Need-returns
+returns c = ?
+
+-- src/lib.rt:159:1
+returns-2 : tie.Need-returns-2
+returns-2 c = ?
+
+-- src/lib.rt:159:1
+returns-3 : tie.Need-returns-3
+returns-3 c = ?
+
+pub back-throw-spec : {M : Type 1} → statement M
+back-throw-spec =
+    tie.close
+    (tie.spec throw-redex-requires enum-known-a enum-told enum-told-2 returns returns-2 returns-3)

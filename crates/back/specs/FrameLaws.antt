@@ -1,0 +1,85 @@
+-- Laws of a frame's words by its tag, in a room that fits.
+use mathlib.Core.Path.{_≡_, refl}
+use mathlib.Core.Bool.{true}
+use mathlib.Core.List.{List}
+use mathlib.Core.Logic.{_⊎_, inl, inr}
+use Prim.Native.Nat.{ℕ, zero, suc, _-_, _≤_, _<_}
+use native.Mathlib.Omega.{arith}
+use Rattle.image.specs.Numbers.{variables}
+use Rattle.image.specs.Nodes.{nodeWord, kindOf, operands, nodeHolds}
+use Rattle.laws.specs.Values.{IsValue}
+use Rattle.laws.specs.Trees.{operandCount, operand-below}
+use Rattle.rules.specs.Trees.{operand}
+use Rattle.room.specs.Room.{first, second, test, loop, shapeOf, word, tag, kept, IsNode, Held, FrameOk, Fit}
+use Rattle.back.specs.Comes.{First}
+
+module _ (ws room : List ℕ) (i : ℕ) (fit : Fit ws room (suc i)) where
+  ok : FrameOk ws (shapeOf (tag ws room i)) (tag ws room i) (word ws room i 1) (word ws room i 2) (word ws room i 4) (kept ws room i)
+  ok = fit .frame-ok i (omega arith)
+
+  pub node-first : (k : ℕ) → shapeOf k ≡ first → tag ws room i ≡ k → IsNode ws (word ws room i 1) k
+  node-first k e t = let o = rw (t, e) at ok in o
+
+  pub node-second : (k : ℕ) → shapeOf k ≡ second → tag ws room i ≡ k
+      → IsNode ws (word ws room i 1) (k - 16) × IsValue (word ws room i 2)
+  node-second k e t = let o = rw (t, e) at ok in o
+
+  pub node-test : tag ws room i ≡ 13 → IsNode ws (word ws room i 1) 13
+  unfolding shapeOf
+  node-test t = let o = rw t at ok in o
+
+  pub block-variable : tag ws room i ≡ 10 → word ws room i 2 < variables
+  unfolding shapeOf
+  block-variable t = let o = rw t at ok in o .0
+
+  -- the tags that are left, when no other function has taken the frame
+  pub tag-left : (t : ℕ) → tag ws room i ≡ t → (t ≡ 1 → ⊥) → (t ≡ 7 → ⊥) → (t ≡ 9 → ⊥) → (t ≡ 24 → ⊥) → (t ≡ 20 → ⊥) → (t ≡ 21 → ⊥)
+      → (t ≡ 6 → ⊥) → (t ≡ 10 → ⊥) → (t ≡ 11 → ⊥) → (t ≡ 29 → ⊥) → (t ≡ 15 → ⊥) → (t ≡ 12 → ⊥) → (t ≡ 13 → ⊥) → (t ≡ 14 → ⊥) → First t
+  unfolding shapeOf
+  tag-left zero e a1 a7 a9 a24 a20 a21 a6 a10 a11 a29 a15 a12 a13 a14 = absurd (rw e at ok)
+  tag-left (suc zero) e a1 a7 a9 a24 a20 a21 a6 a10 a11 a29 a15 a12 a13 a14 = absurd (a1 refl)
+  tag-left (suc (suc zero)) e a1 a7 a9 a24 a20 a21 a6 a10 a11 a29 a15 a12 a13 a14 = absurd (rw e at ok)
+  tag-left (suc (suc (suc zero))) e a1 a7 a9 a24 a20 a21 a6 a10 a11 a29 a15 a12 a13 a14 = absurd (rw e at ok)
+  tag-left (suc (suc (suc (suc zero)))) e a1 a7 a9 a24 a20 a21 a6 a10 a11 a29 a15 a12 a13 a14 = inl (inl refl)
+  tag-left (suc (suc (suc (suc (suc zero))))) e a1 a7 a9 a24 a20 a21 a6 a10 a11 a29 a15 a12 a13 a14 = inl (inr refl)
+  tag-left (suc (suc (suc (suc (suc (suc zero)))))) e a1 a7 a9 a24 a20 a21 a6 a10 a11 a29 a15 a12 a13 a14 = absurd (a6 refl)
+  tag-left (suc (suc (suc (suc (suc (suc (suc zero))))))) e a1 a7 a9 a24 a20 a21 a6 a10 a11 a29 a15 a12 a13 a14 = absurd (a7 refl)
+  tag-left (suc (suc (suc (suc (suc (suc (suc (suc zero)))))))) e a1 a7 a9 a24 a20 a21 a6 a10 a11 a29 a15 a12 a13 a14 = inr refl
+  tag-left (suc (suc (suc (suc (suc (suc (suc (suc (suc zero))))))))) e a1 a7 a9 a24 a20 a21 a6 a10 a11 a29 a15 a12 a13 a14 = absurd (a9 refl)
+  tag-left (suc (suc (suc (suc (suc (suc (suc (suc (suc (suc zero)))))))))) e a1 a7 a9 a24 a20 a21 a6 a10 a11 a29 a15 a12 a13 a14 = absurd (a10 refl)
+  tag-left (suc (suc (suc (suc (suc (suc (suc (suc (suc (suc (suc zero))))))))))) e a1 a7 a9 a24 a20 a21 a6 a10 a11 a29 a15 a12 a13 a14 = absurd (a11 refl)
+  tag-left (suc (suc (suc (suc (suc (suc (suc (suc (suc (suc (suc (suc zero)))))))))))) e a1 a7 a9 a24 a20 a21 a6 a10 a11 a29 a15 a12 a13 a14 = absurd (a12 refl)
+  tag-left (suc (suc (suc (suc (suc (suc (suc (suc (suc (suc (suc (suc (suc zero))))))))))))) e a1 a7 a9 a24 a20 a21 a6 a10 a11 a29 a15 a12 a13 a14 = absurd (a13 refl)
+  tag-left (suc (suc (suc (suc (suc (suc (suc (suc (suc (suc (suc (suc (suc (suc zero)))))))))))))) e a1 a7 a9 a24 a20 a21 a6 a10 a11 a29 a15 a12 a13 a14 = absurd (a14 refl)
+  tag-left (suc (suc (suc (suc (suc (suc (suc (suc (suc (suc (suc (suc (suc (suc (suc zero))))))))))))))) e a1 a7 a9 a24 a20 a21 a6 a10 a11 a29 a15 a12 a13 a14 = absurd (a15 refl)
+  tag-left (suc (suc (suc (suc (suc (suc (suc (suc (suc (suc (suc (suc (suc (suc (suc (suc zero)))))))))))))))) e a1 a7 a9 a24 a20 a21 a6 a10 a11 a29 a15 a12 a13 a14 = absurd (rw e at ok)
+  tag-left (suc (suc (suc (suc (suc (suc (suc (suc (suc (suc (suc (suc (suc (suc (suc (suc (suc zero))))))))))))))))) e a1 a7 a9 a24 a20 a21 a6 a10 a11 a29 a15 a12 a13 a14 = absurd (rw e at ok)
+  tag-left (suc (suc (suc (suc (suc (suc (suc (suc (suc (suc (suc (suc (suc (suc (suc (suc (suc (suc zero)))))))))))))))))) e a1 a7 a9 a24 a20 a21 a6 a10 a11 a29 a15 a12 a13 a14 = absurd (rw e at ok)
+  tag-left (suc (suc (suc (suc (suc (suc (suc (suc (suc (suc (suc (suc (suc (suc (suc (suc (suc (suc (suc zero))))))))))))))))))) e a1 a7 a9 a24 a20 a21 a6 a10 a11 a29 a15 a12 a13 a14 = absurd (rw e at ok)
+  tag-left (suc (suc (suc (suc (suc (suc (suc (suc (suc (suc (suc (suc (suc (suc (suc (suc (suc (suc (suc (suc zero)))))))))))))))))))) e a1 a7 a9 a24 a20 a21 a6 a10 a11 a29 a15 a12 a13 a14 = absurd (a20 refl)
+  tag-left (suc (suc (suc (suc (suc (suc (suc (suc (suc (suc (suc (suc (suc (suc (suc (suc (suc (suc (suc (suc (suc zero))))))))))))))))))))) e a1 a7 a9 a24 a20 a21 a6 a10 a11 a29 a15 a12 a13 a14 = absurd (a21 refl)
+  tag-left (suc (suc (suc (suc (suc (suc (suc (suc (suc (suc (suc (suc (suc (suc (suc (suc (suc (suc (suc (suc (suc (suc zero)))))))))))))))))))))) e a1 a7 a9 a24 a20 a21 a6 a10 a11 a29 a15 a12 a13 a14 = absurd (rw e at ok)
+  tag-left (suc (suc (suc (suc (suc (suc (suc (suc (suc (suc (suc (suc (suc (suc (suc (suc (suc (suc (suc (suc (suc (suc (suc zero))))))))))))))))))))))) e a1 a7 a9 a24 a20 a21 a6 a10 a11 a29 a15 a12 a13 a14 = absurd (rw e at ok)
+  tag-left (suc (suc (suc (suc (suc (suc (suc (suc (suc (suc (suc (suc (suc (suc (suc (suc (suc (suc (suc (suc (suc (suc (suc (suc zero)))))))))))))))))))))))) e a1 a7 a9 a24 a20 a21 a6 a10 a11 a29 a15 a12 a13 a14 = absurd (a24 refl)
+  tag-left (suc (suc (suc (suc (suc (suc (suc (suc (suc (suc (suc (suc (suc (suc (suc (suc (suc (suc (suc (suc (suc (suc (suc (suc (suc zero))))))))))))))))))))))))) e a1 a7 a9 a24 a20 a21 a6 a10 a11 a29 a15 a12 a13 a14 = absurd (rw e at ok)
+  tag-left (suc (suc (suc (suc (suc (suc (suc (suc (suc (suc (suc (suc (suc (suc (suc (suc (suc (suc (suc (suc (suc (suc (suc (suc (suc (suc zero)))))))))))))))))))))))))) e a1 a7 a9 a24 a20 a21 a6 a10 a11 a29 a15 a12 a13 a14 = absurd (rw e at ok)
+  tag-left (suc (suc (suc (suc (suc (suc (suc (suc (suc (suc (suc (suc (suc (suc (suc (suc (suc (suc (suc (suc (suc (suc (suc (suc (suc (suc (suc zero))))))))))))))))))))))))))) e a1 a7 a9 a24 a20 a21 a6 a10 a11 a29 a15 a12 a13 a14 = absurd (rw e at ok)
+  tag-left (suc (suc (suc (suc (suc (suc (suc (suc (suc (suc (suc (suc (suc (suc (suc (suc (suc (suc (suc (suc (suc (suc (suc (suc (suc (suc (suc (suc zero)))))))))))))))))))))))))))) e a1 a7 a9 a24 a20 a21 a6 a10 a11 a29 a15 a12 a13 a14 = absurd (rw e at ok)
+  tag-left (suc (suc (suc (suc (suc (suc (suc (suc (suc (suc (suc (suc (suc (suc (suc (suc (suc (suc (suc (suc (suc (suc (suc (suc (suc (suc (suc (suc (suc zero))))))))))))))))))))))))))))) e a1 a7 a9 a24 a20 a21 a6 a10 a11 a29 a15 a12 a13 a14 = absurd (a29 refl)
+  tag-left (suc (suc (suc (suc (suc (suc (suc (suc (suc (suc (suc (suc (suc (suc (suc (suc (suc (suc (suc (suc (suc (suc (suc (suc (suc (suc (suc (suc (suc (suc t)))))))))))))))))))))))))))))) e a1 a7 a9 a24 a20 a21 a6 a10 a11 a29 a15 a12 a13 a14 = absurd (rw e at ok)
+
+-- a node of a kind that has operands is not the first one
+pub inner : (ws : List ℕ) (p k : ℕ) → nodeHolds ws p ≡ true → nodeWord ws p 0 ≡ k → 0 < operands (kindOf k) (nodeWord ws p 3) → 1 ≤ p
+inner ws p k h e l = omega (arith, operand-below ws p h 0 (rw e l))
+
+pub inner-first : (ws : List ℕ) (p t : ℕ) → nodeHolds ws p ≡ true → nodeWord ws p 0 ≡ t → First t → 1 ≤ p
+unfolding kindOf operands
+inner-first ws p t h e (inl (inl k)) = inner ws p t h e (rw k (omega arith))
+inner-first ws p t h e (inl (inr k)) = inner ws p t h e (rw k (omega arith))
+inner-first ws p t h e (inr k) = inner ws p t h e (rw k (omega arith))
+
+pub first-shape : (t : ℕ) → First t → shapeOf t ≡ first
+unfolding shapeOf
+first-shape t (inl (inl k)) = rw k
+first-shape t (inl (inr k)) = rw k
+first-shape t (inr k) = rw k
