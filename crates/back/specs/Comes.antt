@@ -1,9 +1,10 @@
 -- What the functions promise that take a value back to the innermost frame.
 use mathlib.Core.Path.{_≡_}
-use mathlib.Core.Bool.{Bool, true}
+use mathlib.Core.Bool.{Bool, true, cond}
 use mathlib.Core.List.{List}
 use mathlib.Core.Logic.{_⊎_}
-use Prim.Native.Nat.{ℕ, suc, _<_}
+use Prim.Native.Nat.{ℕ, suc, _+_, _-_, _<_}
+use lib.Dec.{eqb}
 use lib.ListN.{getD}
 use Rattle.image.specs.Trailer.{nodeCount}
 use Rattle.image.specs.Nodes.{nodeHolds}
@@ -12,7 +13,7 @@ use Rattle.redexes.specs.declared.Outcome.the-variants.{Gives, Raises, Fails}
 use Rattle.room.specs.declared.Focus.the-variants.{Value, Thrown}
 use Rattle.room.specs.declared.Go.{Go}
 use Rattle.room.specs.declared.Go.the-variants.{Stepped, Stuck}
-use Rattle.room.specs.Room.{searchWord, word, tag}
+use Rattle.room.specs.Room.{searchWord, frameAt, word, tag}
 use Rattle.room.specs.Turn.{HeapOk, Inv, Turned}
 
 -- A value w comes back to frame i, whose tag is t and whose place is p.
@@ -35,8 +36,8 @@ Pairs ws hs t p i v w r =
     → Turned ws D may hs room (suc i) (Value w) hs room r
 
 -- A turn in one room, which may be written. The heap is left alone.
-abbrev pub Writes : (ws room : List ℕ) (t p i w : ℕ) (room' : List ℕ) → Go → Type 0
-Writes ws room t p i w room' r =
+abbrev pub Changes : (ws room : List ℕ) (t p i w : ℕ) (room' : List ℕ) → Go → Type 0
+Changes ws room t p i w room' r =
     (D : ℕ) (hs : List ℕ) (may : Bool) → Coming ws D hs room t p i w → Turned ws D may hs room (suc i) (Value w) hs room' r
 
 -- the turn that a redex's outcome makes at place p
@@ -48,3 +49,7 @@ finishOf Fails p i = Stuck p
 -- the tags of a node with two operands whose first one is active, and more than a Seq
 abbrev pub First : ℕ → Type 0
 First t = ((t ≡ 4) ⊎ (t ≡ 5)) ⊎ (t ≡ 8)
+
+-- a tag for which the heap is not read, and not a Call's
+abbrev pub Unheaped : ℕ → Type 0
+Unheaped t = (t ≡ 1 → ⊥) × (t ≡ 7 → ⊥) × (t ≡ 24 → ⊥) × (t ≡ 9 → ⊥)

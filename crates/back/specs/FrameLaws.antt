@@ -11,7 +11,7 @@ use Rattle.laws.specs.Values.{IsValue}
 use Rattle.laws.specs.Trees.{operandCount, operand-below}
 use Rattle.rules.specs.Trees.{operand}
 use Rattle.room.specs.Room.{first, second, test, loop, shapeOf, word, tag, kept, IsNode, Held, FrameOk, Fit}
-use Rattle.back.specs.Comes.{First}
+use Rattle.back.specs.Comes.{First, Unheaped}
 
 module _ (ws room : List ℕ) (i : ℕ) (fit : Fit ws room (suc i)) where
   ok : FrameOk ws (shapeOf (tag ws room i)) (tag ws room i) (word ws room i 1) (word ws room i 2) (word ws room i 4) (kept ws room i)
@@ -33,40 +33,40 @@ module _ (ws room : List ℕ) (i : ℕ) (fit : Fit ws room (suc i)) where
   block-variable t = let o = rw t at ok in o .0
 
   -- the tags that are left, when no other function has taken the frame
-  pub tag-left : (t : ℕ) → tag ws room i ≡ t → (t ≡ 1 → ⊥) → (t ≡ 7 → ⊥) → (t ≡ 9 → ⊥) → (t ≡ 24 → ⊥) → (t ≡ 20 → ⊥) → (t ≡ 21 → ⊥)
-      → (t ≡ 6 → ⊥) → (t ≡ 10 → ⊥) → (t ≡ 11 → ⊥) → (t ≡ 29 → ⊥) → (t ≡ 15 → ⊥) → (t ≡ 12 → ⊥) → (t ≡ 13 → ⊥) → (t ≡ 14 → ⊥) → First t
+  pub tag-left : (t : ℕ) → tag ws room i ≡ t → Unheaped t → (t ≡ 6 → ⊥) → (t ≡ 10 → ⊥) → (t ≡ 11 → ⊥) → (t ≡ 12 → ⊥) → (t ≡ 13 → ⊥) → (t ≡ 14 → ⊥)
+      → (t ≡ 15 → ⊥) → (t ≡ 20 → ⊥) → (t ≡ 21 → ⊥) → (t ≡ 29 → ⊥) → First t
   unfolding shapeOf
-  tag-left zero e a1 a7 a9 a24 a20 a21 a6 a10 a11 a29 a15 a12 a13 a14 = absurd (rw e at ok)
-  tag-left (suc zero) e a1 a7 a9 a24 a20 a21 a6 a10 a11 a29 a15 a12 a13 a14 = absurd (a1 refl)
-  tag-left (suc (suc zero)) e a1 a7 a9 a24 a20 a21 a6 a10 a11 a29 a15 a12 a13 a14 = absurd (rw e at ok)
-  tag-left (suc (suc (suc zero))) e a1 a7 a9 a24 a20 a21 a6 a10 a11 a29 a15 a12 a13 a14 = absurd (rw e at ok)
-  tag-left (suc (suc (suc (suc zero)))) e a1 a7 a9 a24 a20 a21 a6 a10 a11 a29 a15 a12 a13 a14 = inl (inl refl)
-  tag-left (suc (suc (suc (suc (suc zero))))) e a1 a7 a9 a24 a20 a21 a6 a10 a11 a29 a15 a12 a13 a14 = inl (inr refl)
-  tag-left (suc (suc (suc (suc (suc (suc zero)))))) e a1 a7 a9 a24 a20 a21 a6 a10 a11 a29 a15 a12 a13 a14 = absurd (a6 refl)
-  tag-left (suc (suc (suc (suc (suc (suc (suc zero))))))) e a1 a7 a9 a24 a20 a21 a6 a10 a11 a29 a15 a12 a13 a14 = absurd (a7 refl)
-  tag-left (suc (suc (suc (suc (suc (suc (suc (suc zero)))))))) e a1 a7 a9 a24 a20 a21 a6 a10 a11 a29 a15 a12 a13 a14 = inr refl
-  tag-left (suc (suc (suc (suc (suc (suc (suc (suc (suc zero))))))))) e a1 a7 a9 a24 a20 a21 a6 a10 a11 a29 a15 a12 a13 a14 = absurd (a9 refl)
-  tag-left (suc (suc (suc (suc (suc (suc (suc (suc (suc (suc zero)))))))))) e a1 a7 a9 a24 a20 a21 a6 a10 a11 a29 a15 a12 a13 a14 = absurd (a10 refl)
-  tag-left (suc (suc (suc (suc (suc (suc (suc (suc (suc (suc (suc zero))))))))))) e a1 a7 a9 a24 a20 a21 a6 a10 a11 a29 a15 a12 a13 a14 = absurd (a11 refl)
-  tag-left (suc (suc (suc (suc (suc (suc (suc (suc (suc (suc (suc (suc zero)))))))))))) e a1 a7 a9 a24 a20 a21 a6 a10 a11 a29 a15 a12 a13 a14 = absurd (a12 refl)
-  tag-left (suc (suc (suc (suc (suc (suc (suc (suc (suc (suc (suc (suc (suc zero))))))))))))) e a1 a7 a9 a24 a20 a21 a6 a10 a11 a29 a15 a12 a13 a14 = absurd (a13 refl)
-  tag-left (suc (suc (suc (suc (suc (suc (suc (suc (suc (suc (suc (suc (suc (suc zero)))))))))))))) e a1 a7 a9 a24 a20 a21 a6 a10 a11 a29 a15 a12 a13 a14 = absurd (a14 refl)
-  tag-left (suc (suc (suc (suc (suc (suc (suc (suc (suc (suc (suc (suc (suc (suc (suc zero))))))))))))))) e a1 a7 a9 a24 a20 a21 a6 a10 a11 a29 a15 a12 a13 a14 = absurd (a15 refl)
-  tag-left (suc (suc (suc (suc (suc (suc (suc (suc (suc (suc (suc (suc (suc (suc (suc (suc zero)))))))))))))))) e a1 a7 a9 a24 a20 a21 a6 a10 a11 a29 a15 a12 a13 a14 = absurd (rw e at ok)
-  tag-left (suc (suc (suc (suc (suc (suc (suc (suc (suc (suc (suc (suc (suc (suc (suc (suc (suc zero))))))))))))))))) e a1 a7 a9 a24 a20 a21 a6 a10 a11 a29 a15 a12 a13 a14 = absurd (rw e at ok)
-  tag-left (suc (suc (suc (suc (suc (suc (suc (suc (suc (suc (suc (suc (suc (suc (suc (suc (suc (suc zero)))))))))))))))))) e a1 a7 a9 a24 a20 a21 a6 a10 a11 a29 a15 a12 a13 a14 = absurd (rw e at ok)
-  tag-left (suc (suc (suc (suc (suc (suc (suc (suc (suc (suc (suc (suc (suc (suc (suc (suc (suc (suc (suc zero))))))))))))))))))) e a1 a7 a9 a24 a20 a21 a6 a10 a11 a29 a15 a12 a13 a14 = absurd (rw e at ok)
-  tag-left (suc (suc (suc (suc (suc (suc (suc (suc (suc (suc (suc (suc (suc (suc (suc (suc (suc (suc (suc (suc zero)))))))))))))))))))) e a1 a7 a9 a24 a20 a21 a6 a10 a11 a29 a15 a12 a13 a14 = absurd (a20 refl)
-  tag-left (suc (suc (suc (suc (suc (suc (suc (suc (suc (suc (suc (suc (suc (suc (suc (suc (suc (suc (suc (suc (suc zero))))))))))))))))))))) e a1 a7 a9 a24 a20 a21 a6 a10 a11 a29 a15 a12 a13 a14 = absurd (a21 refl)
-  tag-left (suc (suc (suc (suc (suc (suc (suc (suc (suc (suc (suc (suc (suc (suc (suc (suc (suc (suc (suc (suc (suc (suc zero)))))))))))))))))))))) e a1 a7 a9 a24 a20 a21 a6 a10 a11 a29 a15 a12 a13 a14 = absurd (rw e at ok)
-  tag-left (suc (suc (suc (suc (suc (suc (suc (suc (suc (suc (suc (suc (suc (suc (suc (suc (suc (suc (suc (suc (suc (suc (suc zero))))))))))))))))))))))) e a1 a7 a9 a24 a20 a21 a6 a10 a11 a29 a15 a12 a13 a14 = absurd (rw e at ok)
-  tag-left (suc (suc (suc (suc (suc (suc (suc (suc (suc (suc (suc (suc (suc (suc (suc (suc (suc (suc (suc (suc (suc (suc (suc (suc zero)))))))))))))))))))))))) e a1 a7 a9 a24 a20 a21 a6 a10 a11 a29 a15 a12 a13 a14 = absurd (a24 refl)
-  tag-left (suc (suc (suc (suc (suc (suc (suc (suc (suc (suc (suc (suc (suc (suc (suc (suc (suc (suc (suc (suc (suc (suc (suc (suc (suc zero))))))))))))))))))))))))) e a1 a7 a9 a24 a20 a21 a6 a10 a11 a29 a15 a12 a13 a14 = absurd (rw e at ok)
-  tag-left (suc (suc (suc (suc (suc (suc (suc (suc (suc (suc (suc (suc (suc (suc (suc (suc (suc (suc (suc (suc (suc (suc (suc (suc (suc (suc zero)))))))))))))))))))))))))) e a1 a7 a9 a24 a20 a21 a6 a10 a11 a29 a15 a12 a13 a14 = absurd (rw e at ok)
-  tag-left (suc (suc (suc (suc (suc (suc (suc (suc (suc (suc (suc (suc (suc (suc (suc (suc (suc (suc (suc (suc (suc (suc (suc (suc (suc (suc (suc zero))))))))))))))))))))))))))) e a1 a7 a9 a24 a20 a21 a6 a10 a11 a29 a15 a12 a13 a14 = absurd (rw e at ok)
-  tag-left (suc (suc (suc (suc (suc (suc (suc (suc (suc (suc (suc (suc (suc (suc (suc (suc (suc (suc (suc (suc (suc (suc (suc (suc (suc (suc (suc (suc zero)))))))))))))))))))))))))))) e a1 a7 a9 a24 a20 a21 a6 a10 a11 a29 a15 a12 a13 a14 = absurd (rw e at ok)
-  tag-left (suc (suc (suc (suc (suc (suc (suc (suc (suc (suc (suc (suc (suc (suc (suc (suc (suc (suc (suc (suc (suc (suc (suc (suc (suc (suc (suc (suc (suc zero))))))))))))))))))))))))))))) e a1 a7 a9 a24 a20 a21 a6 a10 a11 a29 a15 a12 a13 a14 = absurd (a29 refl)
-  tag-left (suc (suc (suc (suc (suc (suc (suc (suc (suc (suc (suc (suc (suc (suc (suc (suc (suc (suc (suc (suc (suc (suc (suc (suc (suc (suc (suc (suc (suc (suc t)))))))))))))))))))))))))))))) e a1 a7 a9 a24 a20 a21 a6 a10 a11 a29 a15 a12 a13 a14 = absurd (rw e at ok)
+  tag-left zero e u a6 a10 a11 a12 a13 a14 a15 a20 a21 a29 = absurd (rw e at ok)
+  tag-left (suc zero) e u a6 a10 a11 a12 a13 a14 a15 a20 a21 a29 = absurd (u .0 refl)
+  tag-left (suc (suc zero)) e u a6 a10 a11 a12 a13 a14 a15 a20 a21 a29 = absurd (rw e at ok)
+  tag-left (suc (suc (suc zero))) e u a6 a10 a11 a12 a13 a14 a15 a20 a21 a29 = absurd (rw e at ok)
+  tag-left (suc (suc (suc (suc zero)))) e u a6 a10 a11 a12 a13 a14 a15 a20 a21 a29 = inl (inl refl)
+  tag-left (suc (suc (suc (suc (suc zero))))) e u a6 a10 a11 a12 a13 a14 a15 a20 a21 a29 = inl (inr refl)
+  tag-left (suc (suc (suc (suc (suc (suc zero)))))) e u a6 a10 a11 a12 a13 a14 a15 a20 a21 a29 = absurd (a6 refl)
+  tag-left (suc (suc (suc (suc (suc (suc (suc zero))))))) e u a6 a10 a11 a12 a13 a14 a15 a20 a21 a29 = absurd (u .1 refl)
+  tag-left (suc (suc (suc (suc (suc (suc (suc (suc zero)))))))) e u a6 a10 a11 a12 a13 a14 a15 a20 a21 a29 = inr refl
+  tag-left (suc (suc (suc (suc (suc (suc (suc (suc (suc zero))))))))) e u a6 a10 a11 a12 a13 a14 a15 a20 a21 a29 = absurd (u .3 refl)
+  tag-left (suc (suc (suc (suc (suc (suc (suc (suc (suc (suc zero)))))))))) e u a6 a10 a11 a12 a13 a14 a15 a20 a21 a29 = absurd (a10 refl)
+  tag-left (suc (suc (suc (suc (suc (suc (suc (suc (suc (suc (suc zero))))))))))) e u a6 a10 a11 a12 a13 a14 a15 a20 a21 a29 = absurd (a11 refl)
+  tag-left (suc (suc (suc (suc (suc (suc (suc (suc (suc (suc (suc (suc zero)))))))))))) e u a6 a10 a11 a12 a13 a14 a15 a20 a21 a29 = absurd (a12 refl)
+  tag-left (suc (suc (suc (suc (suc (suc (suc (suc (suc (suc (suc (suc (suc zero))))))))))))) e u a6 a10 a11 a12 a13 a14 a15 a20 a21 a29 = absurd (a13 refl)
+  tag-left (suc (suc (suc (suc (suc (suc (suc (suc (suc (suc (suc (suc (suc (suc zero)))))))))))))) e u a6 a10 a11 a12 a13 a14 a15 a20 a21 a29 = absurd (a14 refl)
+  tag-left (suc (suc (suc (suc (suc (suc (suc (suc (suc (suc (suc (suc (suc (suc (suc zero))))))))))))))) e u a6 a10 a11 a12 a13 a14 a15 a20 a21 a29 = absurd (a15 refl)
+  tag-left (suc (suc (suc (suc (suc (suc (suc (suc (suc (suc (suc (suc (suc (suc (suc (suc zero)))))))))))))))) e u a6 a10 a11 a12 a13 a14 a15 a20 a21 a29 = absurd (rw e at ok)
+  tag-left (suc (suc (suc (suc (suc (suc (suc (suc (suc (suc (suc (suc (suc (suc (suc (suc (suc zero))))))))))))))))) e u a6 a10 a11 a12 a13 a14 a15 a20 a21 a29 = absurd (rw e at ok)
+  tag-left (suc (suc (suc (suc (suc (suc (suc (suc (suc (suc (suc (suc (suc (suc (suc (suc (suc (suc zero)))))))))))))))))) e u a6 a10 a11 a12 a13 a14 a15 a20 a21 a29 = absurd (rw e at ok)
+  tag-left (suc (suc (suc (suc (suc (suc (suc (suc (suc (suc (suc (suc (suc (suc (suc (suc (suc (suc (suc zero))))))))))))))))))) e u a6 a10 a11 a12 a13 a14 a15 a20 a21 a29 = absurd (rw e at ok)
+  tag-left (suc (suc (suc (suc (suc (suc (suc (suc (suc (suc (suc (suc (suc (suc (suc (suc (suc (suc (suc (suc zero)))))))))))))))))))) e u a6 a10 a11 a12 a13 a14 a15 a20 a21 a29 = absurd (a20 refl)
+  tag-left (suc (suc (suc (suc (suc (suc (suc (suc (suc (suc (suc (suc (suc (suc (suc (suc (suc (suc (suc (suc (suc zero))))))))))))))))))))) e u a6 a10 a11 a12 a13 a14 a15 a20 a21 a29 = absurd (a21 refl)
+  tag-left (suc (suc (suc (suc (suc (suc (suc (suc (suc (suc (suc (suc (suc (suc (suc (suc (suc (suc (suc (suc (suc (suc zero)))))))))))))))))))))) e u a6 a10 a11 a12 a13 a14 a15 a20 a21 a29 = absurd (rw e at ok)
+  tag-left (suc (suc (suc (suc (suc (suc (suc (suc (suc (suc (suc (suc (suc (suc (suc (suc (suc (suc (suc (suc (suc (suc (suc zero))))))))))))))))))))))) e u a6 a10 a11 a12 a13 a14 a15 a20 a21 a29 = absurd (rw e at ok)
+  tag-left (suc (suc (suc (suc (suc (suc (suc (suc (suc (suc (suc (suc (suc (suc (suc (suc (suc (suc (suc (suc (suc (suc (suc (suc zero)))))))))))))))))))))))) e u a6 a10 a11 a12 a13 a14 a15 a20 a21 a29 = absurd (u .2 refl)
+  tag-left (suc (suc (suc (suc (suc (suc (suc (suc (suc (suc (suc (suc (suc (suc (suc (suc (suc (suc (suc (suc (suc (suc (suc (suc (suc zero))))))))))))))))))))))))) e u a6 a10 a11 a12 a13 a14 a15 a20 a21 a29 = absurd (rw e at ok)
+  tag-left (suc (suc (suc (suc (suc (suc (suc (suc (suc (suc (suc (suc (suc (suc (suc (suc (suc (suc (suc (suc (suc (suc (suc (suc (suc (suc zero)))))))))))))))))))))))))) e u a6 a10 a11 a12 a13 a14 a15 a20 a21 a29 = absurd (rw e at ok)
+  tag-left (suc (suc (suc (suc (suc (suc (suc (suc (suc (suc (suc (suc (suc (suc (suc (suc (suc (suc (suc (suc (suc (suc (suc (suc (suc (suc (suc zero))))))))))))))))))))))))))) e u a6 a10 a11 a12 a13 a14 a15 a20 a21 a29 = absurd (rw e at ok)
+  tag-left (suc (suc (suc (suc (suc (suc (suc (suc (suc (suc (suc (suc (suc (suc (suc (suc (suc (suc (suc (suc (suc (suc (suc (suc (suc (suc (suc (suc zero)))))))))))))))))))))))))))) e u a6 a10 a11 a12 a13 a14 a15 a20 a21 a29 = absurd (rw e at ok)
+  tag-left (suc (suc (suc (suc (suc (suc (suc (suc (suc (suc (suc (suc (suc (suc (suc (suc (suc (suc (suc (suc (suc (suc (suc (suc (suc (suc (suc (suc (suc zero))))))))))))))))))))))))))))) e u a6 a10 a11 a12 a13 a14 a15 a20 a21 a29 = absurd (a29 refl)
+  tag-left (suc (suc (suc (suc (suc (suc (suc (suc (suc (suc (suc (suc (suc (suc (suc (suc (suc (suc (suc (suc (suc (suc (suc (suc (suc (suc (suc (suc (suc (suc t)))))))))))))))))))))))))))))) e u a6 a10 a11 a12 a13 a14 a15 a20 a21 a29 = absurd (rw e at ok)
 
 -- a node of a kind that has operands is not the first one
 pub inner : (ws : List ℕ) (p k : ℕ) → nodeHolds ws p ≡ true → nodeWord ws p 0 ≡ k → 0 < operands (kindOf k) (nodeWord ws p 3) → 1 ≤ p
@@ -83,3 +83,8 @@ unfolding shapeOf
 first-shape t (inl (inl k)) = rw k
 first-shape t (inl (inr k)) = rw k
 first-shape t (inr k) = rw k
+
+pub first-small : (t : ℕ) → First t → t ≤ 8
+first-small t (inl (inl k)) = omega arith
+first-small t (inl (inr k)) = omega arith
+first-small t (inr k) = omega arith

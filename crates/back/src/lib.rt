@@ -14,7 +14,7 @@ ghost use Rattle.heap.specs.Rows.{Sizes};
 ghost use Rattle.room.specs.declared.Focus.the-variants.{Value};
 ghost use Rattle.room.specs.Room.{searchWord, frameAt, word, tag, Fit};
 ghost use Rattle.room.specs.Turn.{HeapOk, Inv, Turned};
-ghost use Rattle.back.specs.Comes.{Coming, Stays, Pairs, Writes, First, finishOf};
+ghost use Rattle.back.specs.Comes.{Coming, Stays, Pairs, Changes, First, Unheaped, finishOf};
 use image::Layout;
 use objects::Spot;
 use redexes::Choice;
@@ -28,10 +28,14 @@ const FRAMES: usize = 80;
 
 const FRAME_WORDS: usize = 16;
 
-// A frame's tag is this much more where the second operand is active,
+// A frame's tag is this much more where the second operand is active.
 const SECOND: u64 = 16;
 
-// and this is the tag of the Seq that a loop becomes.
+// The tags of a Block, of a Seq, and of the Seq that a loop becomes.
+const BLOCK: u64 = 10;
+
+const SEQ: u64 = 11;
+
 const LOOP: u64 = 29;
 
 // The turn that a redex's outcome makes at place p.
@@ -60,6 +64,14 @@ fn back_add(p: usize, i: usize, v: u64, w: u64) -> Go
     ensures { λ r. ⌜ ((ws hs : List ℕ) → Pairs ws hs 20 p i v w r) ⌝ }
 {
     finish(redexes::add_redex(v, w), p, i)
+}
+
+// An Eq.
+fn back_eq(i: usize, v: u64, w: u64) -> Go
+    requires { ⌜ IsValue v × IsValue w ⌝ }
+    ensures { λ r. ⌜ ((ws hs : List ℕ) (p : ℕ) → Pairs ws hs 21 p i v w r) ⌝ }
+{
+    Go::Stepped(Focus::Value(redexes::eq_redex(v, w)), i)
 }
 
 // A Get.
@@ -109,7 +121,7 @@ fn back_set(
 // The first operand of an Add, an Eq or a Set, whose tag is t: the frame keeps it, and the second is gone into.
 fn back_first(room: &mut [u64], t: u64, p: usize, i: usize, w: u64) -> Go
     requires { ⌜ First t × (1 ≤ p) × (frameAt (suc i) ≤ length (now room)) ⌝ }
-    ensures { λ r. ⌜ ((ws : List ℕ) → Writes ws (now (room .entry)) t p i w (now (room .exit)) r) ⌝ }
+    ensures { λ r. ⌜ ((ws : List ℕ) → Changes ws (now (room .entry)) t p i w (now (room .exit)) r) ⌝ }
 {
     let at = FRAMES + FRAME_WORDS * i;
     room[at] = t + SECOND;
@@ -120,7 +132,7 @@ fn back_first(room: &mut [u64], t: u64, p: usize, i: usize, w: u64) -> Go
 // A Block is over: its variable is again what it was outside.
 fn back_block(room: &mut [u64], p: usize, i: usize, w: u64) -> Go
     requires { ⌜ (getD (now room) (frameAt i + 2) 0 < variables) × (frameAt (suc i) ≤ length (now room)) ⌝ }
-    ensures { λ r. ⌜ ((ws : List ℕ) → Writes ws (now (room .entry)) 10 p i w (now (room .exit)) r) ⌝ }
+    ensures { λ r. ⌜ ((ws : List ℕ) → Changes ws (now (room .entry)) 10 p i w (now (room .exit)) r) ⌝ }
 {
     let at = FRAMES + FRAME_WORDS * i;
     let x = room[at + 2] as usize;
@@ -143,7 +155,7 @@ fn back_if(ws: &[u32], lay: Layout, p: usize, i: usize, w: u64) -> Go
 // The If of a loop: it becomes the Seq of the body and the loop, or the loop is over.
 fn back_test(room: &mut [u64], p: usize, i: usize, w: u64) -> Go
     requires { ⌜ (1 ≤ p) × (frameAt (suc i) ≤ length (now room)) × IsValue w ⌝ }
-    ensures { λ r. ⌜ ((ws : List ℕ) → Writes ws (now (room .entry)) 13 p i w (now (room .exit)) r) ⌝ }
+    ensures { λ r. ⌜ ((ws : List ℕ) → Changes ws (now (room .entry)) 13 p i w (now (room .exit)) r) ⌝ }
 {
     match redexes::if_redex(w) {
         Choice::Then => {
@@ -164,5 +176,49 @@ fn back_throw(p: usize, i: usize, w: u64) -> Go
         Thrown::Address(a) => Go::Moved(Focus::Thrown(a, p), i),
         Thrown::Null => Go::Stepped(Focus::Thrown(redexes::NULL_POINTER, p), i),
         Thrown::Fails => Go::Stuck(p),
+    }
+}
+
+// The frames for which the heap is not read: t and p are the tag and the place of frame i.
+fn back_plain(ws: &[u32], lay: Layout, room: &mut [u64], t: u64, p: usize, i: usize, w: u64) -> Go
+    requires { ⌜ Good (now ws) lay × Fit (now ws) (now room) (suc i) × IsValue w × (tag (now ws) (now room) i ≡ t) × (word (now ws) (now room) i 1 ≡ p) × Unheaped t ⌝ }
+    ensures { λ r. ⌜ Changes (now (ws .entry)) (now (room .entry)) t p i w (now (room .exit)) r ⌝ }
+{
+    match t {
+        10 => back_block(room, p, i, w),
+        11 => Go::Stepped(Focus::Node(p - 1), i),
+        12 => back_if(ws, lay, p, i, w),
+        13 => back_test(room, p, i, w),
+        14 => back_throw(p, i, w),
+        15 => Go::Stepped(Focus::Value(w), i),
+        20 => back_add(p, i, room[FRAMES + FRAME_WORDS * i + 2], w),
+        21 => back_eq(i, room[FRAMES + FRAME_WORDS * i + 2], w),
+        29 => Go::Stepped(Focus::Node(p), i),
+        _ => back_first(room, t, p, i, w),
+    }
+}
+
+// A value comes back to frame i, which is not a Call's.
+pub fn back(
+    ws: &[u32],
+    lay: Layout,
+    counts: &[usize],
+    heap: &mut [u64],
+    room: &mut [u64],
+    may: bool,
+    i: usize,
+    w: u64,
+) -> Go
+    requires { ⌜ Good (now ws) lay × Sizes (now ws) (now counts) × Fit (now ws) (now room) (suc i) × IsValue w × HeapOk (now ws) (now heap) (getD (now room) searchWord 0) × (tag (now ws) (now room) i ≡ 9 → ⊥) ⌝ }
+    ensures { λ r. ⌜ ((D : ℕ) → Inv (now (ws .entry)) D (now (room .entry)) (suc i) (Value w) → Turned (now (ws .entry)) D may (now (heap .entry)) (now (room .entry)) (suc i) (Value w) (now (heap .exit)) (now (room .exit)) r) ⌝ }
+{
+    let at = FRAMES + FRAME_WORDS * i;
+    let t = room[at];
+    let p = room[at + 1] as usize;
+    match t {
+        1 => back_cast(ws, lay, heap, p, i, w),
+        7 => back_get(ws, lay, counts, heap, p, i, w),
+        24 => back_set(ws, lay, counts, heap, may, p, i, room[at + 2], w),
+        _ => back_plain(ws, lay, room, t, p, i, w),
     }
 }

@@ -1,3 +1,4 @@
+use Rattle.back.specs.ComesLaws.{block-turned}
 use borrow.Author.Needs.{needs}
 use Rattle.back.proofs.back_block.Statement.{statement}
 use Rattle.back.proofs.back_block.Tie as tie
@@ -50,7 +51,7 @@ same-length c = search needs
 
 -- src/lib.rt:121:1
 returns : tie.Need-returns
-returns c = ?
+returns c = λ ws D hs may k. block-turned ws D hs _ _ _ _ may k
 
 pub back-block-spec : {M : Type 1} → statement M
 back-block-spec =

@@ -1,3 +1,4 @@
+use Rattle.back.specs.ComesLaws.{cast-turned}
 use borrow.Author.Needs.{needs}
 use Rattle.back.proofs.back_cast.Statement.{statement}
 use Rattle.back.proofs.back_cast.Tie as tie
@@ -25,7 +26,7 @@ finish-requires c κs = search needs
 
 -- src/lib.rt:49:1
 returns : tie.Need-returns
-returns c = ?
+returns c = λ D room may k. rw (c .finish .ensures) (cast-turned _ D _ room _ _ _ may k (c .before .cast-redex .result) (rw (← c .before .before .node-word .ensures) (c .before .cast-redex .ensures .0)) (c .before .cast-redex .ensures .1))
 
 pub back-cast-spec : {M : Type 1} → statement M
 back-cast-spec =

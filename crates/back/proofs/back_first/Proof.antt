@@ -1,3 +1,8 @@
+use lib.ListN.{length-set}
+use native.Mathlib.Numerals.{add-one}
+use Rattle.back.specs.FrameLaws.{first-small}
+use Rattle.back.specs.ComesLaws.{first-moves}
+use native.Mathlib.Omega.{arith}
 use borrow.Author.Needs.{needs}
 use Rattle.back.proofs.back_first.Statement.{statement}
 use Rattle.back.proofs.back_first.Tie as tie
@@ -14,7 +19,7 @@ add-at c = search needs
 
 -- src/lib.rt:115:16
 add-room : tie.Need-add-room
-add-room c = ?
+add-room c = omega (arith, first-small _ (c .pre .0))
 
 -- src/lib.rt:115:5
 mul-room : tie.Need-mul-room
@@ -34,7 +39,7 @@ mul-room-2 c = search needs
 
 -- src/lib.rt:116:5
 slice-write-room-2 : tie.Need-slice-write-room-2
-slice-write-room-2 c = ?
+slice-write-room-2 c = rw length-set (omega (arith, c .pre .2))
 
 -- src/lib.rt:117:27
 sub-t7 : tie.Need-sub-t7
@@ -50,7 +55,7 @@ same-length c = search needs
 
 -- src/lib.rt:110:1
 returns : tie.Need-returns
-returns c = ?
+returns c = λ ws D hs may k. rw (add-one) (first-moves ws D hs _ _ _ _ may _ (c .pre .0) k)
 
 pub back-first-spec : {M : Type 1} → statement M
 back-first-spec =

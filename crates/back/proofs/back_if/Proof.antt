@@ -1,3 +1,7 @@
+use Rattle.image.specs.Nodes.{kindOf, operands}
+use Rattle.back.specs.FrameLaws.{inner}
+use Rattle.back.specs.ComesLaws.{if-then, if-else, if-stuck}
+use native.Mathlib.Omega.{arith}
 use borrow.Author.Needs.{needs}
 use Rattle.back.proofs.back_if.Statement.{statement}
 use Rattle.back.proofs.back_if.Tie as tie
@@ -16,7 +20,8 @@ enum-told c = search needs
 
 -- src/lib.rt:137:49
 operand-place-requires : tie.Need-operand-place-requires
-operand-place-requires c κs = ?
+unfolding kindOf operands
+operand-place-requires c κs = let p = c .before .before .before .before .pre in (p .0, p .1, rw (p .2) (omega arith))
 
 -- src/lib.rt:138:54
 enum-told-2 : tie.Need-enum-told-2
@@ -24,7 +29,8 @@ enum-told-2 c = search needs
 
 -- src/lib.rt:138:54
 sub-t10 : tie.Need-sub-t10
-sub-t10 c = ?
+unfolding kindOf operands
+sub-t10 c = let p = c .before .before .before .before .pre in inner _ _ 12 (p .0 .nodes (c .before .before .before .before .args .p) (rw (← p .0 .lay .node-count) (p .1))) (p .2) (omega arith)
 
 -- src/lib.rt:139:26
 enum-told-3 : tie.Need-enum-told-3
@@ -32,15 +38,15 @@ enum-told-3 c = search needs
 
 -- src/lib.rt:132:1
 returns : tie.Need-returns
-returns c = ?
+returns c = λ hs D room may k. rw (c .operand-place .ensures .0) (if-then _ D hs room _ _ _ may k (rw (c .before .enum-told .given .1) at (c .before .before .before .if-redex .ensures)))
 
 -- src/lib.rt:132:1
 returns-2 : tie.Need-returns-2
-returns-2 c = ?
+returns-2 c = λ hs D room may k. if-else _ D hs room _ _ _ may k (rw (c .enum-told2 .given .1) at (c .before .before .if-redex .ensures))
 
 -- src/lib.rt:132:1
 returns-3 : tie.Need-returns-3
-returns-3 c = ?
+returns-3 c = λ hs D room may k. if-stuck _ D hs room _ _ _ may k (rw (c .enum-told3 .given .1) at (c .before .before .if-redex .ensures))
 
 pub back-if-spec : {M : Type 1} → statement M
 back-if-spec =

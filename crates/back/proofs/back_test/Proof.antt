@@ -1,3 +1,5 @@
+use native.Mathlib.Numerals.{add-one}
+use Rattle.back.specs.ComesLaws.{test-again, test-over, test-stuck}
 use borrow.Author.Needs.{needs}
 use Rattle.back.proofs.back_test.Statement.{statement}
 use Rattle.back.proofs.back_test.Tie as tie
@@ -51,15 +53,15 @@ same-length c = search needs
 
 -- src/lib.rt:144:1
 returns : tie.Need-returns
-returns c = ?
+returns c = λ ws D hs may k. rw add-one (test-again ws D hs _ _ _ _ may k (rw (c .enum-told .given .1) at (c .before .before .if-redex .ensures)))
 
 -- src/lib.rt:144:1
 returns-2 : tie.Need-returns-2
-returns-2 c = ?
+returns-2 c = λ ws D hs may k. test-over ws D hs _ _ _ _ may k (rw (c .enum-told2 .given .1) at (c .before .before .if-redex .ensures))
 
 -- src/lib.rt:144:1
 returns-3 : tie.Need-returns-3
-returns-3 c = ?
+returns-3 c = λ ws D hs may k. test-stuck ws D hs _ _ _ _ may k (rw (c .enum-told3 .given .1) at (c .before .before .if-redex .ensures))
 
 pub back-test-spec : {M : Type 1} → statement M
 back-test-spec =

@@ -1,3 +1,4 @@
+use Rattle.back.specs.ComesLaws.{throw-turned, throw-null, throw-stuck}
 use borrow.Author.Needs.{needs}
 use Rattle.back.proofs.back_throw.Statement.{statement}
 use Rattle.back.proofs.back_throw.Tie as tie
@@ -23,15 +24,15 @@ enum-told-2 c = search needs
 
 -- src/lib.rt:159:1
 returns : tie.Need-returns
-returns c = ?
+returns c = λ ws hs D room may k. throw-turned ws D hs room _ _ _ may k _ (rw (c .before .a .given .1) at (c .before .before .before .throw-redex .ensures))
 
 -- src/lib.rt:159:1
 returns-2 : tie.Need-returns-2
-returns-2 c = ?
+returns-2 c = λ ws hs D room may k. throw-null ws D hs room _ _ _ may k (rw (c .enum-told .given .1) at (c .before .before .throw-redex .ensures))
 
 -- src/lib.rt:159:1
 returns-3 : tie.Need-returns-3
-returns-3 c = ?
+returns-3 c = λ ws hs D room may k. throw-stuck ws D hs room _ _ _ may k (rw (c .enum-told2 .given .1) at (c .before .before .throw-redex .ensures))
 
 pub back-throw-spec : {M : Type 1} → statement M
 back-throw-spec =

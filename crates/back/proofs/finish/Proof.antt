@@ -1,3 +1,4 @@
+use Rattle.back.specs.Comes.{finishOf}
 use borrow.Author.Needs.{needs}
 use Rattle.back.proofs.finish.Statement.{statement}
 use Rattle.back.proofs.finish.Tie as tie
@@ -18,15 +19,18 @@ enum-told c = search needs
 
 -- src/lib.rt:38:1
 returns : tie.Need-returns
-returns c = ?
+unfolding finishOf
+returns c = rw (c .before .r .given .1)
 
 -- src/lib.rt:38:1
 returns-2 : tie.Need-returns-2
-returns-2 c = ?
+unfolding finishOf
+returns-2 c = rw (c .before .r2 .given .1)
 
 -- src/lib.rt:38:1
 returns-3 : tie.Need-returns-3
-returns-3 c = ?
+unfolding finishOf
+returns-3 c = rw (c .enum-told .given .1)
 
 pub finish-spec : {M : Type 1} → statement M
 finish-spec =

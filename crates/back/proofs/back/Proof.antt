@@ -1,0 +1,124 @@
+use borrow.Author.Needs.{needs}
+use Rattle.back.proofs.back.Statement.{statement}
+use Rattle.back.proofs.back.Tie as tie
+use Rattle.back.proofs.back.Reads as reads
+use Rattle.back.proofs.back.Lts as lts
+use Rattle.back.proofs.back_cast.Reads as back-cast-reads
+use Rattle.back.proofs.back_get.Reads as back-get-reads
+use Rattle.back.proofs.back_plain.Reads as back-plain-reads
+use Rattle.back.proofs.back_set.Reads as back-set-reads
+
+-- src/lib.rt:257:23
+mul-at : tie.Need-mul-at
+mul-at c = search needs
+
+-- src/lib.rt:257:14
+add-at : tie.Need-add-at
+add-at c = search needs
+
+-- src/lib.rt:258:13
+mul-t : tie.Need-mul-t
+mul-t c = search needs
+
+-- src/lib.rt:258:13
+slice-read-t : tie.Need-slice-read-t
+slice-read-t c = search needs
+
+-- src/lib.rt:259:18
+add-p : tie.Need-add-p
+add-p c = search needs
+
+-- src/lib.rt:259:13
+mul-p : tie.Need-mul-p
+mul-p c = search needs
+
+-- src/lib.rt:259:13
+slice-read-p : tie.Need-slice-read-p
+slice-read-p c = search needs
+
+-- src/lib.rt:261:14
+back-cast-requires : tie.Need-back-cast-requires
+back-cast-requires c κs = ?
+
+-- src/lib.rt:262:14
+back-get-requires : tie.Need-back-get-requires
+back-get-requires c κs = ?
+
+-- src/lib.rt:263:63
+add-back-set : tie.Need-add-back-set
+add-back-set c = search needs
+
+-- src/lib.rt:263:58
+mul-back-set : tie.Need-mul-back-set
+mul-back-set c = search needs
+
+-- src/lib.rt:263:58
+slice-read-back-set : tie.Need-slice-read-back-set
+slice-read-back-set c = search needs
+
+-- src/lib.rt:263:15
+back-set-requires : tie.Need-back-set-requires
+back-set-requires c κs = ?
+
+-- src/lib.rt:264:14
+back-plain-requires : tie.Need-back-plain-requires
+back-plain-requires c κs = ?
+
+-- src/lib.rt:244:1
+same-length : tie.Need-same-length
+same-length c = search needs
+
+-- src/lib.rt:244:1
+returns : tie.Need-returns
+returns c = ?
+
+-- src/lib.rt:244:1
+same-length-2 : tie.Need-same-length-2
+same-length-2 c = search needs
+
+-- src/lib.rt:244:1
+returns-2 : tie.Need-returns-2
+returns-2 c = ?
+
+-- src/lib.rt:244:1
+same-length-3 : tie.Need-same-length-3
+same-length-3 c = search needs
+
+-- src/lib.rt:244:1
+returns-3 : tie.Need-returns-3
+returns-3 c = ?
+
+-- src/lib.rt:244:1
+same-length-4 : tie.Need-same-length-4
+same-length-4 c = search needs
+
+-- src/lib.rt:244:1
+returns-4 : tie.Need-returns-4
+returns-4 c = ?
+
+pub back-spec : {M : Type 1} → statement M
+back-spec =
+    tie.close
+    (tie.spec
+    mul-at
+    add-at
+    mul-t
+    slice-read-t
+    add-p
+    mul-p
+    slice-read-p
+    back-cast-requires
+    back-get-requires
+    add-back-set
+    mul-back-set
+    slice-read-back-set
+    back-set-requires
+    back-plain-requires
+    same-length
+    returns
+    same-length-2
+    returns-2
+    same-length-3
+    returns-3
+    same-length-4
+    returns-4)
