@@ -17,16 +17,16 @@ module _ (ws room : List ℕ) (i : ℕ) (fit : Fit ws room (suc i)) where
   ok : FrameOk ws (shapeOf (tag ws room i)) (tag ws room i) (word ws room i 1) (word ws room i 2) (word ws room i 4) (kept ws room i)
   ok = fit .frame-ok i (omega arith)
 
-  pub node-first : (k : ℕ) → shapeOf k ≡ first → tag ws room i ≡ k → IsNode ws (word ws room i 1) k
-  node-first k e t = let o = rw (t, e) at ok in o
+  pub node-first : (k p : ℕ) → shapeOf k ≡ first → tag ws room i ≡ k → word ws room i 1 ≡ p → IsNode ws p k
+  node-first k p e t q = let o = rw (t, e, q) at ok in o
 
-  pub node-second : (k : ℕ) → shapeOf k ≡ second → tag ws room i ≡ k
-      → IsNode ws (word ws room i 1) (k - 16) × IsValue (word ws room i 2)
-  node-second k e t = let o = rw (t, e) at ok in o
+  pub node-second : (k p : ℕ) → shapeOf k ≡ second → tag ws room i ≡ k → word ws room i 1 ≡ p
+      → IsNode ws p (k - 16) × IsValue (word ws room i 2)
+  node-second k p e t q = let o = rw (t, e, q) at ok in o
 
-  pub node-test : tag ws room i ≡ 13 → IsNode ws (word ws room i 1) 13
+  pub node-test : (p : ℕ) → tag ws room i ≡ 13 → word ws room i 1 ≡ p → IsNode ws p 13
   unfolding shapeOf
-  node-test t = let o = rw t at ok in o
+  node-test p t q = let o = rw (t, q) at ok in o
 
   pub block-variable : tag ws room i ≡ 10 → word ws room i 2 < variables
   unfolding shapeOf

@@ -181,7 +181,7 @@ fn back_throw(p: usize, i: usize, w: u64) -> Go
 
 // The frames for which the heap is not read: t and p are the tag and the place of frame i.
 fn back_plain(ws: &[u32], lay: Layout, room: &mut [u64], t: u64, p: usize, i: usize, w: u64) -> Go
-    requires { ⌜ Good (now ws) lay × Fit (now ws) (now room) (suc i) × IsValue w × (tag (now ws) (now room) i ≡ t) × (word (now ws) (now room) i 1 ≡ p) × Unheaped t ⌝ }
+    requires { ⌜ Good (now ws) lay × Unheaped t × Fit (now ws) (now room) (suc i) × IsValue w × (tag (now ws) (now room) i ≡ t) × (word (now ws) (now room) i 1 ≡ p) ⌝ }
     ensures { λ r. ⌜ Changes (now (ws .entry)) (now (room .entry)) t p i w (now (room .exit)) r ⌝ }
 {
     match t {

@@ -1,3 +1,9 @@
+use Rattle.image.specs.Nodes.{kindOf, operands}
+use Rattle.room.specs.Room.{shapeOf}
+use mathlib.Core.Path.{_∙_, refl}
+use Rattle.back.specs.FrameLaws.{block-variable, first-shape, inner, inner-first, node-first, node-second, node-test, tag-left}
+use Rattle.back.specs.ComesLaws.{seq-turned, loop-turned, try-turned}
+use native.Mathlib.Omega.{arith}
 use borrow.Author.Needs.{needs}
 use Rattle.back.proofs.back_plain.Statement.{statement}
 use Rattle.back.proofs.back_plain.Tie as tie
@@ -13,19 +19,22 @@ use Rattle.back.proofs.back_throw.Reads as back-throw-reads
 
 -- src/lib.rt:188:15
 back-block-requires : tie.Need-back-block-requires
-back-block-requires c κs = ?
+back-block-requires c κs = let p = c .before .before .before .before .pre in (block-variable _ _ _ (p .2) (p .4 ∙ c .before .match .keys1), p .2 .long)
 
 -- src/lib.rt:189:39
 sub-t11 : tie.Need-sub-t11
-sub-t11 c = ?
+unfolding shapeOf kindOf operands
+sub-t11 c = let p = c .before .before .before .pre in let n = node-first _ _ _ (p .2) 11 (c .before .before .before .args .p) refl (p .4 ∙ c .match .keys2) (p .5) in inner _ _ 11 (p .0 .nodes (c .before .before .before .args .p) (n .0)) (n .1) (omega arith)
 
 -- src/lib.rt:190:15
 back-if-requires : tie.Need-back-if-requires
-back-if-requires c κs = ?
+unfolding shapeOf kindOf operands
+back-if-requires c κs = let p = c .before .before .before .pre in let n = node-first _ _ _ (p .2) 12 (c .before .before .before .args .p) refl (p .4 ∙ c .match .keys3) (p .5) in (p .0, rw (p .0 .lay .node-count) (n .0), n .1, p .3)
 
 -- src/lib.rt:191:15
 back-test-requires : tie.Need-back-test-requires
-back-test-requires c κs = ?
+unfolding shapeOf kindOf operands
+back-test-requires c κs = let p = c .before .before .before .before .pre in let n = node-test _ _ _ (p .2) (c .before .before .before .before .args .p) (p .4 ∙ c .before .match .keys4) (p .5) in (inner _ _ 13 (p .0 .nodes (c .before .before .before .before .args .p) (n .0)) (n .1) (omega arith), p .2 .long, p .3)
 
 -- src/lib.rt:192:15
 back-throw-requires : tie.Need-back-throw-requires
@@ -53,7 +62,8 @@ slice-read-back-add c = search needs
 
 -- src/lib.rt:194:15
 back-add-requires : tie.Need-back-add-requires
-back-add-requires c κs = ?
+unfolding shapeOf kindOf operands
+back-add-requires c κs = let p = c .before .before .before .before .pre in (node-second _ _ _ (p .2) 20 (c .before .before .before .before .args .p) refl (p .4 ∙ c .before .match .keys7) (p .5) .1, p .3)
 
 -- src/lib.rt:195:40
 mul-back-eq : tie.Need-mul-back-eq
@@ -77,11 +87,12 @@ slice-read-back-eq c = search needs
 
 -- src/lib.rt:195:15
 back-eq-requires : tie.Need-back-eq-requires
-back-eq-requires c κs = ?
+unfolding shapeOf kindOf operands
+back-eq-requires c κs = let p = c .before .before .before .before .pre in (node-second _ _ _ (p .2) 21 (c .before .before .before .before .args .p) refl (p .4 ∙ c .before .match .keys8) (p .5) .1, p .3)
 
 -- src/lib.rt:197:14
 back-first-requires : tie.Need-back-first-requires
-back-first-requires c κs = ?
+back-first-requires c κs = let p = c .before .before .before .before .pre in let f = tag-left _ _ _ (p .2) (c .before .before .before .before .args .t) (p .4) (p .1) (c .before .match .rest .0 .0 .0 .0 .0 .0 .0 .0 .1) (c .before .match .rest .0 .0 .0 .0 .0 .0 .0 .1) (c .before .match .rest .0 .0 .0 .0 .0 .0 .1) (c .before .match .rest .0 .0 .0 .0 .0 .1) (c .before .match .rest .0 .0 .0 .0 .1) (c .before .match .rest .0 .0 .0 .1) (c .before .match .rest .0 .0 .1) (c .before .match .rest .0 .1) (c .before .match .rest .1) in let n = node-first _ _ _ (p .2) _ (c .before .before .before .before .args .p) (first-shape _ f) (p .4) (p .5) in (f, inner-first _ _ _ (p .0 .nodes (c .before .before .before .before .args .p) (n .0)) (n .1) f, p .2 .long)
 
 -- src/lib.rt:183:1
 same-length : tie.Need-same-length
@@ -89,15 +100,15 @@ same-length c = search needs
 
 -- src/lib.rt:183:1
 returns : tie.Need-returns
-returns c = ?
+returns c = λ D hs may k. c .before .before .back-block .ensures _ D hs may (rw (c .before .before .before .before .match .keys1) at k)
 
 -- src/lib.rt:183:1
 returns-2 : tie.Need-returns-2
-returns-2 c = ?
+returns-2 c = λ D hs may k. seq-turned _ D hs _ _ _ _ may (rw (c .match .keys2) at k)
 
 -- src/lib.rt:183:1
 returns-3 : tie.Need-returns-3
-returns-3 c = ?
+returns-3 c = λ D hs may k. c .back-if .ensures hs D _ may (rw (c .before .match .keys3) at k)
 
 -- src/lib.rt:183:1
 same-length-2 : tie.Need-same-length-2
@@ -105,27 +116,27 @@ same-length-2 c = search needs
 
 -- src/lib.rt:183:1
 returns-4 : tie.Need-returns-4
-returns-4 c = ?
+returns-4 c = λ D hs may k. c .before .before .back-test .ensures _ D hs may (rw (c .before .before .before .before .match .keys4) at k)
 
 -- src/lib.rt:183:1
 returns-5 : tie.Need-returns-5
-returns-5 c = ?
+returns-5 c = λ D hs may k. c .back-throw .ensures _ hs D _ may (rw (c .before .match .keys5) at k)
 
 -- src/lib.rt:183:1
 returns-6 : tie.Need-returns-6
-returns-6 c = ?
+returns-6 c = λ D hs may k. try-turned _ D hs _ (c .before .before .before .args .p) _ _ may (rw (c .match .keys6) at k)
 
 -- src/lib.rt:183:1
 returns-7 : tie.Need-returns-7
-returns-7 c = ?
+returns-7 c = λ D hs may k. c .back-add .ensures _ hs D _ may (rw (c .before .before .match .keys7) at k) refl
 
 -- src/lib.rt:183:1
 returns-8 : tie.Need-returns-8
-returns-8 c = ?
+returns-8 c = λ D hs may k. c .back-eq .ensures _ hs (c .before .before .before .before .before .args .p) D _ may (rw (c .before .before .match .keys8) at k) refl
 
 -- src/lib.rt:183:1
 returns-9 : tie.Need-returns-9
-returns-9 c = ?
+returns-9 c = λ D hs may k. loop-turned _ D hs _ _ _ _ may (rw (c .match .keys9) at k)
 
 -- src/lib.rt:183:1
 same-length-3 : tie.Need-same-length-3
@@ -133,7 +144,7 @@ same-length-3 c = search needs
 
 -- src/lib.rt:183:1
 returns-10 : tie.Need-returns-10
-returns-10 c = ?
+returns-10 c = λ D hs may k. c .before .before .back-first .ensures _ D hs may k
 
 pub back-plain-spec : {M : Type 1} → statement M
 back-plain-spec =
