@@ -8,13 +8,15 @@ use native.Mathlib.Omega.{arith}
 use lib.ListN.{length, getD, set, length-set}
 use Rattle.words.specs.declared.Value.{Value}
 use Rattle.words.specs.Value.{addresses}
-use Rattle.image.specs.Nodes.{nodeWord}
+use Rattle.image.specs.Numbers.{variables}
+use Rattle.image.specs.Trailer.{nodeCount}
+use Rattle.image.specs.Nodes.{nodeWord, kindOf, nodeHolds}
 use Rattle.rules.specs.Trees.{operand}
 use Rattle.rules.specs.Program.{program}
 use Rattle.rules.specs.Heap.{heapOf}
 use Rattle.rules.specs.Step.{Redex, gives, redex, eqRedex, addRedex, castRedex, sameValue}
 use Rattle.laws.specs.Values.{valueAt, IsValue}
-use Rattle.laws.specs.Frames.{Frame}
+use Rattle.laws.specs.Frames.{Frame, assignF, outer}
 use Rattle.redexes.specs.declared.Outcome.{Outcome}
 use Rattle.redexes.specs.declared.Outcome.the-variants.{Gives, Raises, Fails}
 use Rattle.redexes.specs.declared.Choice.{Choice}
@@ -25,10 +27,15 @@ use Rattle.redexes.specs.Outcomes.{redexOf, Sound, Chooses, ThrowsAt, Throws}
 use Rattle.objects.specs.Spots.{FieldSpot, FieldRaises, FieldFails}
 use Rattle.room.specs.declared.Focus.the-variants.{Node, Value as Word, Thrown as At}
 use Rattle.room.specs.declared.Go.the-variants.{Moved, Stepped, Limit, Stuck}
-use Rattle.room.specs.Room.{searchWord, frameAt, storeOf, word, tag}
-use Rattle.room.specs.Turn.{HeapOk, focusOf, Turned, Could, Steps}
+use Rattle.room.specs.Room.{searchWord, frameAt, storeOf, shapeOf, begun, frameOf, word, tag, frame, frames, Fit}
+use Rattle.room.specs.RoomLaws.{fit-less}
+use Rattle.room.specs.Enter.{outers-in}
+use Rattle.room.specs.Armed.{armedSeq}
+use Rattle.room.specs.Turn.{HeapOk, focusOf, weight, pending, Turned, Could, Steps}
 use Rattle.room.specs.Back as back
 use Rattle.room.specs.Back.{Back}
+use Rattle.enter.specs.Turns.{Writes, restOf}
+use Rattle.enter.specs.TakeUp.{takes-rest, rest-place}
 use Rattle.back.specs.Comes.{Coming, finishOf, First}
 
 module _ (ws : List ℕ) (D : ℕ) (hs room : List ℕ) (p i w : ℕ) (may : Bool) where
@@ -210,3 +217,49 @@ module _ (ws : List ℕ) (D : ℕ) (hs room : List ℕ) (p i w : ℕ) (may : Boo
         rw (← k .placed)
         (back.back-halts ws (k .nodes) D hs room i w (k .inv) (back.back-throw ws (k .nodes) D hs room i w (k .inv) (k .tagged))
         (word ws room i 1) (e _ _ _), refl)
+
+  -- an Assign that no block takes up
+  pub assign-turned : Coming ws D hs room 6 p i w → (x : ℕ) → x ≡ nodeWord ws p 2 → armedSeq ws room i x ≡ false
+      → Turned ws D may hs room (suc i) (Word w) hs (set room x (suc w)) (Stepped (Word w) i)
+  assign-turned k x e a =
+      let q : x ≡ nodeWord ws (word ws room i 1) 2 = e ∙ ap (λ n. nodeWord ws n 2) (sym (k .placed)) in
+      rw q (back.assign-steps ws (k .nodes) D hs room i w (k .inv) (k .heap) (k .tagged) (rw (← q) a), λ f. refl)
+
+-- an Assign whose value a block takes up
+module _ (ws : List ℕ) (D : ℕ) (hs room : List ℕ) (p w x : ℕ) (may : Bool) where
+  taken-writes : (i : ℕ) → Coming ws D hs room 6 p (suc i) w → x ≡ nodeWord ws p 2 → Writes ws D room (suc (suc i)) (Word w) i x w
+  unfolding focusOf frames frame frameOf shapeOf begun kindOf pending weight outer
+  taken-writes i k e =
+      record {
+        inv = k .inv;
+        under = omega arith;
+        place = p;
+        value-place = 0;
+        same = rw (k .tagged, k .placed, e);
+        around = rw (k .tagged) (outers-in (assignF (word ws room (suc i) 1) (nodeWord ws (word ws room (suc i) 1) 2)) (frames ws room (suc i)) (storeOf room) refl);
+        more = omega arith;
+      }
+
+  pub assign-taken : (i : ℕ) → Coming ws D hs room 6 p i w → x ≡ nodeWord ws p 2 → x < variables → armedSeq ws room i x ≡ true
+      → Turned ws D may hs room (suc i) (Word w) hs (set room x (suc w)) (Moved (Node (restOf room (i - 1))) (i - 1))
+  unfolding armedSeq
+  assign-taken zero k e m a = absurd (let z : _≡_ {A = ℕ} 0 1 = cc in omega arith)
+  assign-taken (suc i) k e m a =
+      let z : suc i - 1 ≡ i = omega arith in
+      rw z
+      (takes-rest ws (k .nodes) D room (suc (suc i)) (Word w) i x w (taken-writes i k e) a m (k .inv .here)
+      (fit-less ws (omega arith) (k .inv .fit)), refl)
+
+-- the frame of the sequence, below the Assign's
+pub taken-below : (ws room : List ℕ) (i x : ℕ) → armedSeq ws room i x ≡ true → 1 ≤ i
+unfolding armedSeq
+taken-below ws room zero x a = absurd (let z : _≡_ {A = ℕ} 0 1 = cc in omega arith)
+taken-below ws room (suc i) x a = omega arith
+
+pub taken-place : (ws : List ℕ) (nodes : (n : ℕ) → n < nodeCount ws → nodeHolds ws n ≡ true) (room : List ℕ) (i x : ℕ)
+    → Fit ws room (suc i) → armedSeq ws room i x ≡ true → 0 < word ws room (i - 1) 1
+unfolding armedSeq
+taken-place ws nodes room zero x fit a = absurd (let z : _≡_ {A = ℕ} 0 1 = cc in omega arith)
+taken-place ws nodes room (suc i) x fit a =
+    let z : suc i - 1 ≡ i = omega arith in
+    rw z (rest-place ws nodes (fit-less ws (omega arith) fit) x a)

@@ -31,11 +31,7 @@ const FRAME_WORDS: usize = 16;
 // A frame's tag is this much more where the second operand is active.
 const SECOND: u64 = 16;
 
-// The tags of a Block, of a Seq, and of the Seq that a loop becomes.
-const BLOCK: u64 = 10;
-
-const SEQ: u64 = 11;
-
+// The tag of the Seq that a loop becomes.
 const LOOP: u64 = 29;
 
 // The turn that a redex's outcome makes at place p.
@@ -179,12 +175,28 @@ fn back_throw(p: usize, i: usize, w: u64) -> Go
     }
 }
 
+// An Assign. Where a block takes the value up, the sequence that the Assign begins goes on with its rest.
+fn back_assign(ws: &[u32], lay: Layout, room: &mut [u64], p: usize, i: usize, w: u64) -> Go
+    requires { ⌜ Good (now ws) lay × (p < lay .«node_count») × (nodeWord (now ws) p 0 ≡ 6) × Fit (now ws) (now room) (suc i) × IsValue w ⌝ }
+    ensures { λ r. ⌜ Changes (now (ws .entry)) (now (room .entry)) 6 p i w (now (room .exit)) r ⌝ }
+{
+    let x = image::node_word(ws, lay, p, 2) as usize;
+    if enter::armed_seq(room, i, x) {
+        let j = i - 1;
+        let rest = enter::take_up(room, j, x, w);
+        return Go::Moved(Focus::Node(rest), j);
+    }
+    room[x] = w + 1;
+    Go::Stepped(Focus::Value(w), i)
+}
+
 // The frames for which the heap is not read: t and p are the tag and the place of frame i.
 fn back_plain(ws: &[u32], lay: Layout, room: &mut [u64], t: u64, p: usize, i: usize, w: u64) -> Go
     requires { ⌜ Good (now ws) lay × Unheaped t × Fit (now ws) (now room) (suc i) × IsValue w × (tag (now ws) (now room) i ≡ t) × (word (now ws) (now room) i 1 ≡ p) ⌝ }
     ensures { λ r. ⌜ Changes (now (ws .entry)) (now (room .entry)) t p i w (now (room .exit)) r ⌝ }
 {
     match t {
+        6 => back_assign(ws, lay, room, p, i, w),
         10 => back_block(room, p, i, w),
         11 => Go::Stepped(Focus::Node(p - 1), i),
         12 => back_if(ws, lay, p, i, w),

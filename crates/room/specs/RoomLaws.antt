@@ -40,7 +40,7 @@ kept-set {old} {new} {l} j w h k =
 pub kept-lower : {old new : List ℕ} {l m : ℕ} → m ≤ l → Kept old new l → Kept old new m
 kept-lower h k = record { size = k .size; same = λ j i. k .same j (omega arith) }
 
-store-same : (old new : List ℕ) → ((x : ℕ) → x < variables → getD new x 0 ≡ getD old x 0) → storeOf new ≡ storeOf old
+pub store-same : (old new : List ℕ) → ((x : ℕ) → x < variables → getD new x 0 ≡ getD old x 0) → storeOf new ≡ storeOf old
 unfolding storeOf
 store-same old new h i x = go (ltb x variables) refl i
   where
