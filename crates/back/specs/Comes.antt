@@ -1,10 +1,9 @@
 -- What the functions promise that take a value back to the innermost frame.
 use mathlib.Core.Path.{_≡_}
-use mathlib.Core.Bool.{Bool, true, cond}
+use mathlib.Core.Bool.{Bool, true}
 use mathlib.Core.List.{List}
 use mathlib.Core.Logic.{_⊎_}
-use Prim.Native.Nat.{ℕ, suc, _+_, _-_, _<_}
-use lib.Dec.{eqb}
+use Prim.Native.Nat.{ℕ, suc, _<_}
 use lib.ListN.{getD}
 use Rattle.image.specs.Trailer.{nodeCount}
 use Rattle.image.specs.Nodes.{nodeHolds}
@@ -13,7 +12,7 @@ use Rattle.redexes.specs.declared.Outcome.the-variants.{Gives, Raises, Fails}
 use Rattle.room.specs.declared.Focus.the-variants.{Value, Thrown}
 use Rattle.room.specs.declared.Go.{Go}
 use Rattle.room.specs.declared.Go.the-variants.{Stepped, Stuck}
-use Rattle.room.specs.Room.{searchWord, frameAt, word, tag}
+use Rattle.room.specs.Room.{searchWord, word, tag}
 use Rattle.room.specs.Turn.{HeapOk, Inv, Turned}
 
 -- A value w comes back to frame i, whose tag is t and whose place is p.
@@ -46,7 +45,7 @@ finishOf (Gives u) p i = Stepped (Value u) i
 finishOf (Raises a) p i = Stepped (Thrown a p) i
 finishOf Fails p i = Stuck p
 
--- the tags of a node with two operands whose first one is active, and more than a Seq
+-- the tags of Add, Eq and Set where the first operand is active
 abbrev pub First : ℕ → Type 0
 First t = ((t ≡ 4) ⊎ (t ≡ 5)) ⊎ (t ≡ 8)
 

@@ -1,20 +1,19 @@
 -- Laws of a value that comes back, one for each answer.
 use mathlib.Core.Path.{_≡_, refl, sym, _∙_, ap}
 use mathlib.Core.Bool.{Bool, true, false}
-use mathlib.Core.List.{List, _∷_}
-use mathlib.Core.Logic.{_⊎_, inl, inr}
-use Prim.Native.Nat.{ℕ, zero, suc, _+_, _*_, _-_, _≤_, _<_}
+use mathlib.Core.List.{List}
+use mathlib.Core.Logic.{inl, inr}
+use Prim.Native.Nat.{ℕ, zero, suc, _+_, _-_, _≤_, _<_}
 use native.Mathlib.Omega.{arith}
-use lib.ListN.{length, getD, set, length-set}
+use lib.ListN.{getD, set, length-set}
 use Rattle.words.specs.declared.Value.{Value}
-use Rattle.words.specs.Value.{addresses}
 use Rattle.image.specs.Numbers.{variables}
 use Rattle.image.specs.Trailer.{nodeCount}
 use Rattle.image.specs.Nodes.{nodeWord, kindOf, nodeHolds}
 use Rattle.rules.specs.Trees.{operand}
 use Rattle.rules.specs.Program.{program}
 use Rattle.rules.specs.Heap.{heapOf}
-use Rattle.rules.specs.Step.{Redex, gives, redex, eqRedex, addRedex, castRedex, sameValue}
+use Rattle.rules.specs.Step.{Redex, redex, eqRedex, addRedex, castRedex, sameValue}
 use Rattle.laws.specs.Values.{valueAt, IsValue}
 use Rattle.laws.specs.Frames.{Frame, assignF, outer}
 use Rattle.redexes.specs.declared.Outcome.{Outcome}
@@ -27,11 +26,11 @@ use Rattle.redexes.specs.Outcomes.{redexOf, Sound, Chooses, ThrowsAt, Throws}
 use Rattle.objects.specs.Spots.{FieldSpot, FieldRaises, FieldFails}
 use Rattle.room.specs.declared.Focus.the-variants.{Node, Value as Word, Thrown as At}
 use Rattle.room.specs.declared.Go.the-variants.{Moved, Stepped, Limit, Stuck}
-use Rattle.room.specs.Room.{searchWord, frameAt, storeOf, shapeOf, begun, frameOf, word, tag, frame, frames, Fit}
+use Rattle.room.specs.Room.{searchWord, frameAt, storeOf, shapeOf, begun, frameOf, word, frame, frames, Fit}
 use Rattle.room.specs.RoomLaws.{fit-less}
 use Rattle.room.specs.Enter.{outers-in}
 use Rattle.room.specs.Armed.{armedSeq}
-use Rattle.room.specs.Turn.{HeapOk, focusOf, weight, pending, Turned, Could, Steps}
+use Rattle.room.specs.Turn.{HeapOk, focusOf, weight, pending, Turned, Steps}
 use Rattle.room.specs.Back as back
 use Rattle.room.specs.Back.{Back}
 use Rattle.enter.specs.Turns.{Writes, restOf}
@@ -66,32 +65,32 @@ module _ (ws : List ℕ) (D : ℕ) (hs room : List ℕ) (p i w : ℕ) (may : Boo
       → valueAt u ≡ Value.Bool (sameValue (valueAt v) (valueAt w)) → IsValue u
       → Turned ws D may hs room (suc i) (Word w) hs room (Stepped (Word u) i)
   unfolding eqRedex
-  eq-turned k v q u e s =
-      (
-        back.redex-gives ws (k .nodes) D hs room i w (k .inv) _ _ _ (back.back-eq ws (k .nodes) D hs room i w (k .inv) (k .tagged)) hs u
+  eq-turned k v q u e s = (
+    back.redex-gives ws (k .nodes) D hs room i w (k .inv) _ _ _ (back.back-eq ws (k .nodes) D hs room i w (k .inv) (k .tagged)) hs u
         (rw (q, e)) s (k .heap),
-        λ f. refl,
-      )
+    λ f. refl,
+  )
 
   -- a field is read
   module _ (k : Coming ws D hs room 7 p i w) where
     pub get-at : (j : ℕ) → FieldSpot ws hs (nodeWord ws p 2) (nodeWord ws p 3) w j
         → Turned ws D may hs room (suc i) (Word w) hs room (Stepped (Word (getD hs j 0)) i)
-    get-at j s =
-        (
-          back.redex-gives ws (k .nodes) D hs room i w (k .inv) _ _ _ (back.back-get ws (k .nodes) D hs room i w (k .inv) (k .tagged)) hs
+    get-at j s = (
+      back.redex-gives ws (k .nodes) D hs room i w (k .inv) _ _ _ (back.back-get ws (k .nodes) D hs room i w (k .inv) (k .tagged)) hs
           (getD hs j 0) (rw (k .placed) (s .reads)) (s .holds) (k .heap),
-          λ f. refl,
-        )
+      λ f. refl,
+    )
 
     pub get-raises : (a : ℕ) → FieldRaises ws hs (nodeWord ws p 2) (nodeWord ws p 3) w a
         → Turned ws D may hs room (suc i) (Word w) hs room (Stepped (At a p) i)
     get-raises a s =
         let q : word ws room i 1 ≡ p = k .placed in
         let e = rw (← q) at (s .reads) in
-        rw (← q)
-        (back.redex-raises ws (k .nodes) D hs room i w (k .inv) _ _ _ (back.back-get ws (k .nodes) D hs room i w (k .inv) (k .tagged)) a e
-        (s .known) (k .heap), λ f. refl)
+        rw (← q) (
+          back.redex-raises ws (k .nodes) D hs room i w (k .inv) _ _ _ (back.back-get ws (k .nodes) D hs room i w (k .inv) (k .tagged)) a e
+              (s .known) (k .heap),
+          λ f. refl,
+        )
 
     pub get-fails : FieldFails ws hs (nodeWord ws p 2) (nodeWord ws p 3) w
         → Turned ws D may hs room (suc i) (Word w) hs room (Stuck p)
@@ -131,9 +130,11 @@ module _ (ws : List ℕ) (D : ℕ) (hs room : List ℕ) (p i w : ℕ) (may : Boo
     set-raises a s =
         let q : word ws room i 1 ≡ p = k .placed in
         let e = rw (← q, ← third) at (s .writes (valueAt w)) in
-        rw (← q)
-        (back.redex-raises ws (k .nodes) D hs room i w (k .inv) _ _ _ (back.back-put ws (k .nodes) D hs room i w (k .inv) (k .tagged)) a e
-        (s .known) (k .heap), λ f. refl)
+        rw (← q) (
+          back.redex-raises ws (k .nodes) D hs room i w (k .inv) _ _ _ (back.back-put ws (k .nodes) D hs room i w (k .inv) (k .tagged)) a e
+              (s .known) (k .heap),
+          λ f. refl,
+        )
 
     pub set-fails : FieldFails ws hs (nodeWord ws p 2) (nodeWord ws p 3) v
         → Turned ws D may hs room (suc i) (Word w) hs room (Stuck p)
@@ -179,9 +180,11 @@ module _ (ws : List ℕ) (D : ℕ) (hs room : List ℕ) (p i w : ℕ) (may : Boo
 
     pub if-stuck : Chooses w Choice.Fails → Turned ws D may hs room (suc i) (Word w) hs room (Stuck p)
     if-stuck e =
-        rw (← k .placed)
-        (back.back-halts ws (k .nodes) D hs room i w (k .inv) (back.back-if ws (k .nodes) D hs room i w (k .inv) (k .tagged))
-        (word ws room i 1) (e _ _ _ _ _), refl)
+        rw (← k .placed) (
+          back.back-halts ws (k .nodes) D hs room i w (k .inv) (back.back-if ws (k .nodes) D hs room i w (k .inv) (k .tagged))
+              (word ws room i 1) (e _ _ _ _ _),
+          refl,
+        )
 
   -- the arms of a loop's If
   module _ (k : Coming ws D hs room 13 p i w) where
@@ -195,9 +198,11 @@ module _ (ws : List ℕ) (D : ℕ) (hs room : List ℕ) (p i w : ℕ) (may : Boo
 
     pub test-stuck : Chooses w Choice.Fails → Turned ws D may hs room (suc i) (Word w) hs room (Stuck p)
     test-stuck e =
-        rw (← k .placed)
-        (back.back-halts ws (k .nodes) D hs room i w (k .inv) (back.back-test ws (k .nodes) D hs room i w (k .inv) (k .tagged))
-        (word ws room i 1) (e _ _ _ _ _), refl)
+        rw (← k .placed) (
+          back.back-halts ws (k .nodes) D hs room i w (k .inv) (back.back-test ws (k .nodes) D hs room i w (k .inv) (k .tagged))
+              (word ws room i 1) (e _ _ _ _ _),
+          refl,
+        )
 
   -- a Throw
   module _ (k : Coming ws D hs room 14 p i w) where
@@ -208,15 +213,19 @@ module _ (ws : List ℕ) (D : ℕ) (hs room : List ℕ) (p i w : ℕ) (may : Boo
     pub throw-null : Throws w Null → Turned ws D may hs room (suc i) (Word w) hs room (Stepped (At 0 p) i)
     unfolding redex focusOf
     throw-null e =
-        rw (← k .placed)
-        (back.steps-less ws (k .nodes) D hs room i w (k .inv) (back.back-throw ws (k .nodes) D hs room i w (k .inv) (k .tagged))
-        (word ws room i 1) hs (At 0 (word ws room i 1)) (e _ _ _) (omega arith) (k .heap), λ f. refl)
+        rw (← k .placed) (
+          back.steps-less ws (k .nodes) D hs room i w (k .inv) (back.back-throw ws (k .nodes) D hs room i w (k .inv) (k .tagged))
+              (word ws room i 1) hs (At 0 (word ws room i 1)) (e _ _ _) (omega arith) (k .heap),
+          λ f. refl,
+        )
 
     pub throw-stuck : Throws w Thrown.Fails → Turned ws D may hs room (suc i) (Word w) hs room (Stuck p)
     throw-stuck e =
-        rw (← k .placed)
-        (back.back-halts ws (k .nodes) D hs room i w (k .inv) (back.back-throw ws (k .nodes) D hs room i w (k .inv) (k .tagged))
-        (word ws room i 1) (e _ _ _), refl)
+        rw (← k .placed) (
+          back.back-halts ws (k .nodes) D hs room i w (k .inv) (back.back-throw ws (k .nodes) D hs room i w (k .inv) (k .tagged))
+              (word ws room i 1) (e _ _ _),
+          refl,
+        )
 
   -- an Assign that no block takes up
   pub assign-turned : Coming ws D hs room 6 p i w → (x : ℕ) → x ≡ nodeWord ws p 2 → armedSeq ws room i x ≡ false
@@ -246,9 +255,11 @@ module _ (ws : List ℕ) (D : ℕ) (hs room : List ℕ) (p w x : ℕ) (may : Boo
   assign-taken zero k e m a = absurd (let z : _≡_ {A = ℕ} 0 1 = cc in omega arith)
   assign-taken (suc i) k e m a =
       let z : suc i - 1 ≡ i = omega arith in
-      rw z
-      (takes-rest ws (k .nodes) D room (suc (suc i)) (Word w) i x w (taken-writes i k e) a m (k .inv .here)
-      (fit-less ws (omega arith) (k .inv .fit)), refl)
+      rw z (
+        takes-rest ws (k .nodes) D room (suc (suc i)) (Word w) i x w (taken-writes i k e) a m (k .inv .here)
+            (fit-less ws (omega arith) (k .inv .fit)),
+        refl,
+      )
 
 -- the frame of the sequence, below the Assign's
 pub taken-below : (ws room : List ℕ) (i x : ℕ) → armedSeq ws room i x ≡ true → 1 ≤ i

@@ -2,15 +2,14 @@
 use mathlib.Core.Path.{_≡_, refl}
 use mathlib.Core.Bool.{true}
 use mathlib.Core.List.{List}
-use mathlib.Core.Logic.{_⊎_, inl, inr}
+use mathlib.Core.Logic.{inl, inr}
 use Prim.Native.Nat.{ℕ, zero, suc, _-_, _≤_, _<_}
 use native.Mathlib.Omega.{arith}
 use Rattle.image.specs.Numbers.{variables}
 use Rattle.image.specs.Nodes.{nodeWord, kindOf, operands, nodeHolds}
 use Rattle.laws.specs.Values.{IsValue}
-use Rattle.laws.specs.Trees.{operandCount, operand-below}
-use Rattle.rules.specs.Trees.{operand}
-use Rattle.room.specs.Room.{first, second, test, loop, shapeOf, word, tag, kept, IsNode, Held, FrameOk, Fit}
+use Rattle.laws.specs.Trees.{operand-below}
+use Rattle.room.specs.Room.{first, second, shapeOf, word, tag, kept, IsNode, FrameOk, Fit}
 use Rattle.back.specs.Comes.{First, Unheaped}
 
 module _ (ws room : List ℕ) (i : ℕ) (fit : Fit ws room (suc i)) where

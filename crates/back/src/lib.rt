@@ -71,7 +71,15 @@ fn back_eq(i: usize, v: u64, w: u64) -> Go
 }
 
 // A Get.
-fn back_get(ws: &[u32], lay: Layout, counts: &[usize], heap: &[u64], p: usize, i: usize, w: u64) -> Go
+fn back_get(
+    ws: &[u32],
+    lay: Layout,
+    counts: &[usize],
+    heap: &[u64],
+    p: usize,
+    i: usize,
+    w: u64,
+) -> Go
     requires { ⌜ Good (now ws) lay × Sizes (now ws) (now counts) × Words (program (now ws)) (classCount (now ws)) (now heap) × (p < lay .«node_count») × (nodeWord (now ws) p 0 ≡ 7) × IsValue w ⌝ }
     ensures { λ r. ⌜ Stays (now (ws .entry)) (now (heap .entry)) 7 p i w r ⌝ }
 {
@@ -126,9 +134,9 @@ fn back_first(room: &mut [u64], t: u64, p: usize, i: usize, w: u64) -> Go
 }
 
 // A Block is over: its variable is again what it was outside.
-fn back_block(room: &mut [u64], p: usize, i: usize, w: u64) -> Go
+fn back_block(room: &mut [u64], i: usize, w: u64) -> Go
     requires { ⌜ (getD (now room) (frameAt i + 2) 0 < variables) × (frameAt (suc i) ≤ length (now room)) ⌝ }
-    ensures { λ r. ⌜ ((ws : List ℕ) → Changes ws (now (room .entry)) 10 p i w (now (room .exit)) r) ⌝ }
+    ensures { λ r. ⌜ ((ws : List ℕ) (p : ℕ) → Changes ws (now (room .entry)) 10 p i w (now (room .exit)) r) ⌝ }
 {
     let at = FRAMES + FRAME_WORDS * i;
     let x = room[at + 2] as usize;
@@ -197,7 +205,7 @@ fn back_plain(ws: &[u32], lay: Layout, room: &mut [u64], t: u64, p: usize, i: us
 {
     match t {
         6 => back_assign(ws, lay, room, p, i, w),
-        10 => back_block(room, p, i, w),
+        10 => back_block(room, i, w),
         11 => Go::Stepped(Focus::Node(p - 1), i),
         12 => back_if(ws, lay, p, i, w),
         13 => back_test(room, p, i, w),

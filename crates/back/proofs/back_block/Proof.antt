@@ -1,57 +1,44 @@
+-- `back::back_block` meets its contract.
+use Rattle.back.proofs.back_block.Statement.{statement}
 use Rattle.back.specs.ComesLaws.{block-turned}
 use borrow.Author.Needs.{needs}
-use Rattle.back.proofs.back_block.Statement.{statement}
 use Rattle.back.proofs.back_block.Tie as tie
-use Rattle.back.proofs.back_block.Reads as reads
-use Rattle.back.proofs.back_block.Lts as lts
 
--- src/lib.rt:125:23
 mul-at : tie.Need-mul-at
 mul-at c = search needs
 
--- src/lib.rt:125:14
 add-at : tie.Need-add-at
 add-at c = search needs
 
--- src/lib.rt:126:18
 add-x : tie.Need-add-x
 add-x c = search needs
 
--- src/lib.rt:126:13
 mul-x : tie.Need-mul-x
 mul-x c = search needs
 
--- src/lib.rt:126:13
 slice-read-x : tie.Need-slice-read-x
 slice-read-x c = search needs
 
--- src/lib.rt:127:20
 add-room : tie.Need-add-room
 add-room c = search needs
 
--- src/lib.rt:127:15
 mul-room : tie.Need-mul-room
 mul-room c = search needs
 
--- src/lib.rt:127:15
 slice-read-room : tie.Need-slice-read-room
 slice-read-room c = search needs
 
--- src/lib.rt:127:5
 mul-room-2 : tie.Need-mul-room-2
 mul-room-2 c = search needs
 
--- src/lib.rt:127:5
 slice-write-room : tie.Need-slice-write-room
 slice-write-room c = search needs
 
--- src/lib.rt:121:1
 same-length : tie.Need-same-length
 same-length c = search needs
 
--- src/lib.rt:121:1
 returns : tie.Need-returns
-returns c = λ ws D hs may k. block-turned ws D hs _ _ _ _ may k
+returns c = λ ws p D hs may k. block-turned ws D hs _ p _ _ may k
 
 pub back-block-spec : {M : Type 1} → statement M
 back-block-spec =

@@ -1,59 +1,46 @@
+-- `back::back_first` meets its contract.
+use Rattle.back.proofs.back_first.Statement.{statement}
+use Rattle.back.specs.ComesLaws.{first-moves}
+use Rattle.back.specs.FrameLaws.{first-small}
+use borrow.Author.Needs.{needs}
 use lib.ListN.{length-set}
 use native.Mathlib.Numerals.{add-one}
-use Rattle.back.specs.FrameLaws.{first-small}
-use Rattle.back.specs.ComesLaws.{first-moves}
 use native.Mathlib.Omega.{arith}
-use borrow.Author.Needs.{needs}
-use Rattle.back.proofs.back_first.Statement.{statement}
 use Rattle.back.proofs.back_first.Tie as tie
-use Rattle.back.proofs.back_first.Reads as reads
-use Rattle.back.proofs.back_first.Lts as lts
 
--- src/lib.rt:114:23
 mul-at : tie.Need-mul-at
 mul-at c = search needs
 
--- src/lib.rt:114:14
 add-at : tie.Need-add-at
 add-at c = search needs
 
--- src/lib.rt:115:16
 add-room : tie.Need-add-room
 add-room c = omega (arith, first-small _ (c .pre .0))
 
--- src/lib.rt:115:5
 mul-room : tie.Need-mul-room
 mul-room c = search needs
 
--- src/lib.rt:115:5
 slice-write-room : tie.Need-slice-write-room
 slice-write-room c = search needs
 
--- src/lib.rt:116:10
 add-room-2 : tie.Need-add-room-2
 add-room-2 c = search needs
 
--- src/lib.rt:116:5
 mul-room-2 : tie.Need-mul-room-2
 mul-room-2 c = search needs
 
--- src/lib.rt:116:5
 slice-write-room-2 : tie.Need-slice-write-room-2
 slice-write-room-2 c = rw length-set (omega (arith, c .pre .2))
 
--- src/lib.rt:117:27
 sub-t7 : tie.Need-sub-t7
 sub-t7 c = search needs
 
--- src/lib.rt:117:35
 add-t10 : tie.Need-add-t10
 add-t10 c = search needs
 
--- src/lib.rt:110:1
 same-length : tie.Need-same-length
 same-length c = search needs
 
--- src/lib.rt:110:1
 returns : tie.Need-returns
 returns c = λ ws D hs may k. rw (add-one) (first-moves ws D hs _ _ _ _ may _ (c .pre .0) k)
 

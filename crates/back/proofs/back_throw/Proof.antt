@@ -1,36 +1,27 @@
-use Rattle.back.specs.ComesLaws.{throw-turned, throw-null, throw-stuck}
-use borrow.Author.Needs.{needs}
+-- `back::back_throw` meets its contract.
 use Rattle.back.proofs.back_throw.Statement.{statement}
+use Rattle.back.specs.ComesLaws.{throw-null, throw-stuck, throw-turned}
+use borrow.Author.Needs.{needs}
 use Rattle.back.proofs.back_throw.Tie as tie
-use Rattle.back.proofs.back_throw.Reads as reads
-use Rattle.back.proofs.back_throw.Lts as lts
-use Rattle.redexes.proofs.throw_redex.Reads as throw-redex-reads
 
--- src/lib.rt:163:11
 throw-redex-requires : tie.Need-throw-redex-requires
 throw-redex-requires c κs = search needs
 
--- src/lib.rt:164:25
 enum-known-a : tie.Need-enum-known-a
 enum-known-a c = search needs
 
--- src/lib.rt:165:37
 enum-told : tie.Need-enum-told
 enum-told c = search needs
 
--- src/lib.rt:166:26
 enum-told-2 : tie.Need-enum-told-2
 enum-told-2 c = search needs
 
--- src/lib.rt:159:1
 returns : tie.Need-returns
 returns c = λ ws hs D room may k. throw-turned ws D hs room _ _ _ may k _ (rw (c .before .a .given .1) at (c .before .before .before .throw-redex .ensures))
 
--- src/lib.rt:159:1
 returns-2 : tie.Need-returns-2
 returns-2 c = λ ws hs D room may k. throw-null ws D hs room _ _ _ may k (rw (c .enum-told .given .1) at (c .before .before .throw-redex .ensures))
 
--- src/lib.rt:159:1
 returns-3 : tie.Need-returns-3
 returns-3 c = λ ws hs D room may k. throw-stuck ws D hs room _ _ _ may k (rw (c .enum-told2 .given .1) at (c .before .before .throw-redex .ensures))
 

@@ -1,33 +1,26 @@
+-- `back::finish` meets its contract.
+use Rattle.back.proofs.finish.Statement.{statement}
 use Rattle.back.specs.Comes.{finishOf}
 use borrow.Author.Needs.{needs}
-use Rattle.back.proofs.finish.Statement.{statement}
 use Rattle.back.proofs.finish.Tie as tie
-use Rattle.back.proofs.finish.Reads as reads
-use Rattle.back.proofs.finish.Lts as lts
 
--- src/lib.rt:42:24
 enum-known-r : tie.Need-enum-known-r
 enum-known-r c = search needs
 
--- src/lib.rt:43:25
 enum-known-r-2 : tie.Need-enum-known-r-2
 enum-known-r-2 c = search needs
 
--- src/lib.rt:44:27
 enum-told : tie.Need-enum-told
 enum-told c = search needs
 
--- src/lib.rt:38:1
 returns : tie.Need-returns
 unfolding finishOf
 returns c = rw (c .before .r .given .1)
 
--- src/lib.rt:38:1
 returns-2 : tie.Need-returns-2
 unfolding finishOf
 returns-2 c = rw (c .before .r2 .given .1)
 
--- src/lib.rt:38:1
 returns-3 : tie.Need-returns-3
 unfolding finishOf
 returns-3 c = rw (c .enum-told .given .1)
