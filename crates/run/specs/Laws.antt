@@ -4,13 +4,13 @@ use mathlib.Core.Bool.{Bool, true, false, _&&_}
 use mathlib.Core.Option.{Option, none, some}
 use mathlib.Core.List.{List, [], _∷_, _++_, map}
 use mathlib.Core.Logic.{_⊎_, inl, inr}
-use Prim.Native.Nat.{ℕ, zero, suc, _+_, _*_, _-_, _/_, _%_, _≤_, _<_, max}
+use Prim.Native.Nat.{ℕ, zero, suc, _+_, _*_, _-_, _/_, _%_, _^_, _≤_, _<_}
 use native.Mathlib.Omega.{arith}
 use native.Mathlib.Decide.{ℕ-discrete}
 use lib.Dec.{eqb, leb, ltb}
-use lib.ListN.{length, getD, set, replicate, length-set, length-map}
-use lib.Seq.{getD-set-same, getD-set-other}
-use borrow.Author.Tests.{ltb-true, ltb-false, lt-ltb, leb-true, eq-eqb, eqb-true}
+use lib.ListN.{length, getD, set, replicate, length-set, length-map, length-replicate, getD-replicate}
+use lib.Seq.{getD-set-same, getD-set-other, ext-getD}
+use borrow.Author.Tests.{ltb-true, ltb-false, leb-true, le-leb, lt-leb}
 use Rattle.order.specs.Rules.{Rule, scan, firstPlace, accepted, orElse, answerOf}
 use Rattle.order.specs.Lowest.{held, after-broken, after-sound}
 use Rattle.order.specs.declared.Answer.{Answer}
@@ -30,10 +30,12 @@ use Rattle.rules.specs.Numbers.{mostSlots, fewestSlots, mostDepth, roomWords, f
 use Rattle.laws.specs.Maps.{from-at, from-below, from-beyond, getD-map}
 use Rattle.laws.specs.Values.{valueAt, IsValue}
 use Rattle.laws.specs.Heap.{Words, words}
+use Rattle.redexes.specs.TagLaws.{tag-small}
 use Rattle.room.specs.Room.{searchWord, frameAt, held as holding, storeOf, Held, Fit}
 use Rattle.room.specs.RoomLaws.{store-at}
 use Rattle.room.specs.Turn.{HeapOk}
-use Rattle.run.specs.Start.{Zeros, Filled}
+use Rattle.run.specs.Judged.{lentRules, Free}
+use Rattle.run.specs.Start.{startWords, Zeros, Filled}
 
 -- the first words become 0 one after the other
 pub zeros-start : (room : List ℕ) → Zeros room 0
@@ -46,8 +48,14 @@ zeros-on {room} {i} z h = record { zero = λ j l. go j l (ℕ-discrete j i) }
     go j l (yes e) = rw (e, getD-set-same room i 0 0 h)
     go j l (no d) = getD-set-other room i j 0 0 d ∙ z .zero j (omega arith)
 
+-- until all are
+pub zeros-all : (room : List ℕ) (n : ℕ) → Zeros room n → length room ≤ n → room ≡ replicate (length room) 0
+zeros-all room n z h =
+    ext-getD 0 room (replicate (length room) 0) (sym (length-replicate (length room) 0))
+    (λ i l. z .zero i (omega arith) ∙ sym (getD-replicate (length room) i 0 0 l))
+
 -- and then the inputs are written
-pub filled-start : {is room : List ℕ} {n : ℕ} → Zeros room n → suc searchWord ≤ n → Filled is room 0
+pub filled-start : {is room : List ℕ} {n : ℕ} → Zeros room n → startWords ≤ n → Filled is room 0
 filled-start z h =
     record {
       this = z .zero 0 (omega arith);
@@ -72,6 +80,13 @@ filled-on {is} {room} {i} f h =
     go k l (no d) =
         getD-set-other room (i + 1) (suc k) (getD is i 0 + 1) 0 (λ e. let q : suc k ≡ i + 1 = e in omega arith)
         ∙ f .input k (omega arith)
+
+pub filled-whole : {is room : List ℕ} {i : ℕ} → Filled is room i → i ≤ length is → length is ≤ i → Filled is room (length is)
+filled-whole {is} {room} {i} f h k = let e : i ≡ length is = omega arith in rw e at f
+
+-- a value's word has room for one more
+pub value-more : (w : ℕ) → IsValue w → w + 1 < 2 ^ 64
+value-more w v = omega (arith, tag-small w v)
 
 -- The store, the words of variables and the search's start of such a room.
 module _ {is room : List ℕ} (f : Filled is room (length is)) (few : length is ≤ 8) where
@@ -118,3 +133,61 @@ module _ {is room : List ℕ} (f : Filled is room (length is)) (few : length is 
 
   pub filled-fit : (ws : List ℕ) → ((k : ℕ) → k < length is → IsValue (getD is k 0)) → frameAt 0 ≤ length room → Fit ws room 0
   filled-fit ws v h = record { long = h; frame-ok = λ i l. absurd (omega arith); held-ok = filled-held ws v }
+
+and-none : (a b : Bool) → b ≡ false → (a && b) ≡ false
+and-none true b e = e
+and-none false b e = refl
+
+pub depth-fine : (depth : ℕ) → 1 ≤ depth → depth ≤ mostDepth → (leb 1 depth && leb depth mostDepth) ≡ true
+depth-fine depth h k = rw (le-leb 1 depth h, le-leb depth mostDepth k)
+
+-- The tests one after the other: what those before passed and this one failed, or all passed.
+module _ (ws hs is : List ℕ) (room depth : ℕ) where
+  pub length-broken : heapLengthHolds (length hs) ≡ false → record { number = 14; place = 0 } ≡ answerOf (lentRules ws hs is room depth)
+  unfolding firstPlace scan heapLengthRule tested answerOf lentRules
+  length-broken a = rw a
+
+  module _ (a : heapLengthHolds (length hs) ≡ true) where
+    length-passed : firstPlace (heapLengthRule hs) ≡ Nowhere
+    unfolding firstPlace scan heapLengthRule tested
+    length-passed = rw a
+
+    pub words-broken : (p : ℕ) → firstPlace (heapWordRule ws hs) ≡ At p
+        → record { number = 15; place = p } ≡ answerOf (lentRules ws hs is room depth)
+    unfolding answerOf lentRules heapWordRule
+    words-broken p b = rw (length-passed, b)
+
+    module _ (b : firstPlace (heapWordRule ws hs) ≡ Nowhere) where
+      pub inputs-broken : (p : ℕ) → firstPlace (inputRule ws is) ≡ At p
+          → record { number = 16; place = p } ≡ answerOf (lentRules ws hs is room depth)
+      unfolding answerOf lentRules inputRule
+      inputs-broken p c = rw (length-passed, b, c)
+
+      module _ (c : firstPlace (inputRule ws is) ≡ Nowhere) where
+        pub depth-broken : (leb 1 depth && leb depth mostDepth) ≡ false
+            → record { number = 19; place = 0 } ≡ answerOf (lentRules ws hs is room depth)
+        unfolding firstPlace scan answerOf lentRules depthRule tested
+        depth-broken d = rw (length-passed, b, c, d)
+
+        pub depth-low : depth < 1 → record { number = 19; place = 0 } ≡ answerOf (lentRules ws hs is room depth)
+        depth-low h = depth-broken (rw (lt-leb 1 depth h))
+
+        pub depth-high : mostDepth < depth → record { number = 19; place = 0 } ≡ answerOf (lentRules ws hs is room depth)
+        depth-high h = depth-broken (and-none (leb 1 depth) (leb depth mostDepth) (lt-leb depth mostDepth h))
+
+        module _ (d : (leb 1 depth && leb depth mostDepth) ≡ true) where
+          pub room-broken : leb (roomWords depth) room ≡ false → record { number = 20; place = 0 } ≡ answerOf (lentRules ws hs is room depth)
+          unfolding firstPlace scan answerOf lentRules depthRule roomRule tested
+          room-broken e = rw (length-passed, b, c, d, e)
+
+          pub all-passed : leb (roomWords depth) room ≡ true → Free ws hs is room depth
+          unfolding firstPlace scan answerOf lentRules depthRule roomRule tested
+          all-passed e =
+              record {
+                answer = rw (length-passed, b, c, d, e);
+                heap-length = a;
+                heap-words = b;
+                inputs = c;
+                depth-low = leb-true depth mostDepth (and-right (leb 1 depth) (leb depth mostDepth) d);
+                enough = leb-true (roomWords depth) room e;
+              }

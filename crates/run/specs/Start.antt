@@ -5,6 +5,10 @@ use Prim.Native.Nat.{ℕ, suc, _<_}
 use lib.ListN.{getD}
 use Rattle.room.specs.Room.{searchWord}
 
+-- the words that are looked at before they are written: the variables and the search's start
+abbrev pub startWords : ℕ
+startWords = suc searchWord
+
 -- the first n words are 0
 pub record Zeros (room : List ℕ) (n : ℕ) : Type 0 where
   pub zero : (j : ℕ) → j < n → getD room j 0 ≡ 0
@@ -13,4 +17,4 @@ pub record Zeros (room : List ℕ) (n : ℕ) : Type 0 where
 pub record Filled (is room : List ℕ) (i : ℕ) : Type 0 where
   pub this : getD room 0 0 ≡ 0
   pub input : (k : ℕ) → k < i → getD room (suc k) 0 ≡ suc (getD is k 0)
-  pub rest : (j : ℕ) → i < j → j < suc searchWord → getD room j 0 ≡ 0
+  pub rest : (j : ℕ) → i < j → j < startWords → getD room j 0 ≡ 0
