@@ -164,6 +164,22 @@ module _ (ws : List ℕ) (good : (n : ℕ) → n < nodeCount ws → nodeHolds ws
   sizes n j h e =
       omega (arith, operand-first ws n (good n h) j e, operand-below ws n (good n h) j (omega arith), node-size ws n (good n h))
 
+  module _ (D : ℕ) (room : List ℕ) (l n : ℕ) (inv : Inv ws D room l (Node n)) where
+    -- a literal, at any depth
+    pub enter-value : (w : ℕ) → nodeWord ws n 0 ≡ 2 → valueAt w ≡ written (valueWith (nodeWord ws n 2) (nodeWord ws n 3)) → IsValue w
+        → Moves ws D room l (Node n) room l (Value w)
+    unfolding focusOf weight load kindOf
+    enter-value w h e v =
+        let t : loaded ws n ≡ bare (valueAt w) = ap load (tree-value ws n (good n (inv .here)) (rw h)) ∙ rw e in
+        record {
+          inv = record { fit = inv .fit; level = inv .level; long = inv .long; here = v };
+          size = refl;
+          search = refl;
+          same = rw t;
+          around = refl;
+          falls = omega (arith, node-size ws n (good n (inv .here)));
+        }
+
   module _ (D : ℕ) (room : List ℕ) (l n : ℕ) (inv : Inv ws D room l (Node n)) (low : l ≤ D) where
     room-for : (k : ℕ) → k < 16 → frameAt l + k < length room
     room-for k h = omega (arith, inv .long)
@@ -225,18 +241,3 @@ module _ (ws : List ℕ) (good : (n : ℕ) → n < nodeCount ws → nodeHolds ws
         (rw (t, q, a, loaded-node n (inv .here), h) (opened-call n (nodeWord ws n 2) y u (storeOf room)))
         (rw (t, q, a))
         (rw (t, q, a, z))
-
-    -- a literal
-    pub enter-value : (w : ℕ) → nodeWord ws n 0 ≡ 2 → valueAt w ≡ written (valueWith (nodeWord ws n 2) (nodeWord ws n 3)) → IsValue w
-        → Moves ws D room l (Node n) room l (Value w)
-    unfolding focusOf weight load kindOf
-    enter-value w h e v =
-        let t : loaded ws n ≡ bare (valueAt w) = ap load (tree-value ws n (good n (inv .here)) (rw h)) ∙ rw e in
-        record {
-          inv = record { fit = inv .fit; level = inv .level; long = inv .long; here = v };
-          size = refl;
-          search = refl;
-          same = rw t;
-          around = refl;
-          falls = omega (arith, node-size ws n (good n (inv .here)));
-        }

@@ -1,0 +1,5 @@
+-- Going into a node.
+pub mod Turns
+-- Laws.
+pub mod Kinds
+pub mod EnterLaws
