@@ -361,7 +361,7 @@ module _ (ws : List ℕ) (good : (n : ℕ) → n < nodeCount ws → nodeHolds ws
       blocks (word ws room i 1) 0 (blockTypes ws base i (word ws room i 1) (suc (nodeWord ws (word ws room i 1) 3)) types (loaded ws m))
       (blockValues ws base i (word ws room i 1) (suc (nodeWord ws (word ws room i 1) 3)) types (loaded ws m)) (loaded ws m)
 
-  pub Enters : Type 0
+  unfoldable pub Enters : Type 0
   Enters =
       callOut (program ws) (word ws room i 1) (heapOf (program ws) hs) (storeOf room) (nodeWord ws (word ws room i 1) 2)
       (valueAt (kept ws base i 0)) (tabulate (nodeWord ws (word ws room i 1) 3) (λ c. valueAt (kept ws base i (suc c))))

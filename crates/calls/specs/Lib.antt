@@ -1,0 +1,4 @@
+-- The blocks of a call.
+pub mod Blocks
+-- Laws.
+pub mod CallLaws
