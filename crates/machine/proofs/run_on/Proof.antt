@@ -31,7 +31,7 @@ loop-holds c = started _ (c .before .before .before .before .before .pre .0 .nod
 
 -- src/lib.rt:81:15
 turn-requires : tie.Need-turn-requires Inv-loop μ-loop
-turn-requires c κs = (c .before .before .before .before .before .before .before .before .pre .0, c .before .before .before .before .before .before .before .before .pre .1, c .before .before .loop .inv .inv, c .before .before .loop .inv .heap, c .before .before .before .before .before .before .before .before .pre .4)
+turn-requires c κs = (c .before .before .before .before .before .before .before .before .pre .0, c .before .before .before .before .before .before .before .before .pre .1, c .before .before .loop .inv .inv, c .before .before .loop .inv .heap)
 
 -- src/lib.rt:82:23
 enum-known-f : tie.Need-enum-known-f Inv-loop μ-loop
