@@ -1,17 +1,25 @@
 // The third public question: the run of an image on a heap, with inputs, in lent room and within limits of steps and depth.
 ghost use mathlib.Core.Path.{_≡_};
-ghost use Prim.Native.Nat.{ℕ, _*_, _+_, _≤_, _<_};
+ghost use Prim.Native.Nat.{ℕ, _≤_, _<_};
 ghost use lib.ListN.{length, getD, replicate};
+ghost use Rattle.order.specs.Rules.{accepted, answerOf, firstPlace};
+ghost use Rattle.order.specs.declared.Found.the-variants.{Nowhere};
 ghost use Rattle.image.specs.Numbers.{mostInputs};
-ghost use Rattle.image.specs.Layout.{Good};
-ghost use Rattle.rules.specs.Numbers.{roomWords};
+ghost use Rattle.image.specs.Layout.{layoutRules, Good};
+ghost use Rattle.rules.specs.Run.{runOf};
+ghost use Rattle.rules.specs.Numbers.{fieldsRule};
 ghost use Rattle.laws.specs.Values.{IsValue};
-ghost use Rattle.heap.specs.Rows.{Sizes};
-ghost use Rattle.run.specs.Answers.{refusalNumbers, ranNumbers, Answers};
+ghost use Rattle.heap.specs.Rows.{Sizes, Rows};
+ghost use Rattle.machine.specs.Finished.{Finishes};
+ghost use Rattle.run.specs.Answers.{Answers};
 ghost use Rattle.run.specs.Start.{Zeros, Filled, startWords};
-ghost use Rattle.run.specs.Judged.{Judges};
+ghost use Rattle.run.specs.Judged.{Free, Judges};
+use heap::TABLE_WORDS;
 use image::Breach;
+use image::Laid;
 use image::Layout;
+use image::MOST_CLASSES;
+use machine::Finished;
 use order::Found;
 use rules::End;
 
@@ -115,4 +123,74 @@ fn judge(
         return Judged::Against(Refusal::Room);
     }
     Judged::Clear
+}
+
+// The run of an image that nothing stands against.
+fn run_clear(
+    ws: &[u32],
+    l: Layout,
+    counts: &[usize],
+    types: &[u32],
+    heap: &mut [u64],
+    inputs: &[u64],
+    room: &mut [u64],
+    steps: u64,
+    depth: usize,
+) -> Finished
+    requires { ⌜ Good (now ws) l × Rows (now ws) (now counts) (now types) × (firstPlace (fieldsRule (now ws)) ≡ Nowhere) × Free (now ws) (now heap) (now inputs) (length (now room)) depth ⌝ }
+    ensures { λ r. ⌜ Finishes (runOf (now (ws .entry)) (now (heap .entry)) (now (inputs .entry)) steps depth) r (now (heap .exit)) × (now (room .exit) ≡ replicate (length (now (room .entry))) 0) ⌝ }
+{
+    clear_start(room);
+    set_inputs(room, inputs);
+    let r = machine::run_on(ws, l, counts, types, heap, room, depth, steps, l.main);
+    clear(room);
+    r
+}
+
+// The run of an image whose layout is in order.
+fn run_laid(
+    ws: &[u32],
+    l: Layout,
+    heap: &mut [u64],
+    inputs: &[u64],
+    room: &mut [u64],
+    steps: u64,
+    depth: u64,
+) -> Ran
+    requires { ⌜ Good (now ws) l × (accepted ≡ answerOf (layoutRules (now ws))) ⌝ }
+    ensures { λ r. ⌜ Answers (now (ws .entry)) (now (heap .entry)) (now (inputs .entry)) (now (room .entry)) steps depth r (now (heap .exit)) (now (room .exit)) ⌝ }
+{
+    if let Found::At(p) = classes::fields_place(ws, l) {
+        return Ran::Refused(Refusal::Fields(p));
+    }
+    let mut counts: [usize; MOST_CLASSES] = [0; MOST_CLASSES];
+    let mut types: [u32; TABLE_WORDS] = [0; TABLE_WORDS];
+    heap::fill_rows(ws, l, &mut counts, &mut types);
+    match judge(ws, l, &counts, heap, inputs, room.len(), depth) {
+        Judged::Against(f) => Ran::Refused(f),
+        Judged::Clear => {
+            let r = run_clear(ws, l, &counts, &types, heap, inputs, room, steps, depth as usize);
+            let end = r.end;
+            let count = r.count;
+            Ran::Ended(end, count)
+        },
+    }
+}
+
+// The run of an image on a heap, with main's inputs, in lent room: at most so many steps, and at most so deep. Any slices and limits
+// may be asked. A refusal changes no word. At an end the heap is as the steps left it, and the room is all 0.
+pub fn run(
+    image: &[u32],
+    heap: &mut [u64],
+    inputs: &[u64],
+    room: &mut [u64],
+    steps: u64,
+    depth: u64,
+) -> Ran
+    ensures { λ r. ⌜ Answers (now (image .entry)) (now (heap .entry)) (now (inputs .entry)) (now (room .entry)) steps depth r (now (heap .exit)) (now (room .exit)) ⌝ }
+{
+    match layout::layout_of_image(image) {
+        Laid::Broken(b) => Ran::Refused(Refusal::Layout(b)),
+        Laid::Sound(l) => run_laid(image, l, heap, inputs, room, steps, depth),
+    }
 }
