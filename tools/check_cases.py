@@ -1,5 +1,5 @@
 #!/usr/bin/env python3
-"""Cases for the checks of an image, in the form that check_reference.py reads.
+"""Cases for the checks of an image, in the form that reference.py reads.
 
     check_cases.py extra
         prints the hand-made cases: the ceilings, and breaches of every number.
@@ -12,12 +12,11 @@
 import random
 import sys
 
-from check_reference import Image, layout, read_case, BadLine
+from reference import Image, layout, read_case, BadLine
+from reference import NEW, CAST, VALUE, VAR, ADD, EQ, ASSIGN, GET, SET, CALL, BLOCK, SEQ, IF, WHILE, THROW, TRY
 
 TOP = 2 ** 32 - 1  # the largest word
 
-# The kinds of node.
-NEW, CAST, VALUE, VAR, ADD, EQ, ASSIGN, GET, SET, CALL, BLOCK, SEQ, IF, WHILE, THROW, TRY = range(16)
 
 
 class Draft:
