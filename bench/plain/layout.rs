@@ -14,7 +14,8 @@ pub struct Image<'a> {
     pub inputs: usize,
 }
 
-/// What is kept of the class table: each class's own records, and how many fields it has in all.
+/// What is kept of the class table: each class's own records, and how many fields it has in all. Only the lines of the
+/// image's classes are written, and only they are read.
 pub struct Classes {
     pub first_field: [u16; MOST_CLASSES + 1],
     pub first_method: [u16; MOST_CLASSES + 1],
@@ -170,13 +171,7 @@ impl Image<'_> {
     }
 }
 
-fn classes(image: &Image) -> Result<Classes, Refused> {
-    let mut found = Classes {
-        first_field: [0; MOST_CLASSES + 1],
-        first_method: [0; MOST_CLASSES + 1],
-        field_count: [0; MOST_CLASSES],
-        below: [[0; 4]; MOST_CLASSES],
-    };
+fn fill_classes(image: &Image, found: &mut Classes) -> Result<(), Refused> {
     let (fields, methods) = (image.fields.len() / 3, image.methods.len() / 6);
     let (mut f, mut m) = (0, 0);
     let mut over = None;
@@ -191,10 +186,7 @@ fn classes(image: &Image) -> Result<Classes, Refused> {
             m += 1;
         }
         let above = image.classes[c] as usize;
-        if c > 0 {
-            found.field_count[c] = found.field_count[above];
-            found.below[c] = found.below[above];
-        }
+        (found.field_count[c], found.below[c]) = if c == 0 { (0, [0; 4]) } else { (found.field_count[above], found.below[above]) };
         found.field_count[c] += (f - own) as u16;
         found.below[c][c / 64] |= 1 << (c % 64);
         if found.field_count[c] > 15 && over.is_none() {
@@ -205,7 +197,7 @@ fn classes(image: &Image) -> Result<Classes, Refused> {
     found.first_method[image.classes.len()] = m as u16;
     match over {
         Some(c) => Err((10, c as u64)),
-        None => Ok(found),
+        None => Ok(()),
     }
 }
 
@@ -252,12 +244,12 @@ fn input_words(image: &Image, inputs: &[u64]) -> Result<(), Refused> {
 }
 
 /// All that is asked of image, heap and inputs.
-pub fn accept<'a>(words: &'a [u32], heap: &[u64], inputs: &[u64]) -> Result<(Image<'a>, Classes), Refused> {
+pub fn accept<'a>(words: &'a [u32], heap: &[u64], inputs: &[u64], classes: &mut Classes) -> Result<Image<'a>, Refused> {
     let image = trailer(words)?;
     image.tables()?;
     image.trees()?;
-    let classes = classes(&image)?;
-    heap_words(&image, &classes, heap)?;
+    fill_classes(&image, classes)?;
+    heap_words(&image, classes, heap)?;
     input_words(&image, inputs)?;
-    Ok((image, classes))
+    Ok(image)
 }

@@ -875,7 +875,7 @@ unsafe fn enter_block(frame: *mut u64, store: *mut u64, x: usize, value: u64) {
 unsafe fn find_method(image: &Image, classes: &Classes, index: &mut Index, class: usize, name: u32) -> Option<(usize, usize)> {
     let key = (class as u32) << 16 | name;
     let entry = index.found.get_unchecked_mut((class ^ name as usize) & 255);
-    if entry.0 != key {
+    if entry.0 != key || image.methods.is_empty() {
         *entry = (key, method_of(image, classes, class, name)? as u16);
     }
     let record = image.methods.get_unchecked(6 * entry.1 as usize..6 * entry.1 as usize + 6);
@@ -883,8 +883,10 @@ unsafe fn find_method(image: &Image, classes: &Classes, index: &mut Index, class
 }
 
 pub fn run(words: &[u32], heap: &mut [u64], inputs: &[u64], room: &mut [u64], steps: u64, depth: u64) -> Answer {
-    let (image, classes) = match accept(words, heap, inputs) {
-        Ok(found) => found,
+    let mut classes = MaybeUninit::<Classes>::uninit();
+    let classes = unsafe { &mut *classes.as_mut_ptr() };
+    let image = match accept(words, heap, inputs, classes) {
+        Ok(image) => image,
         Err((number, place)) => return Answer { number, place, count: 0, value: 0 },
     };
     if !(1..=1024).contains(&depth) {
@@ -898,9 +900,11 @@ pub fn run(words: &[u32], heap: &mut [u64], inputs: &[u64], room: &mut [u64], st
     let end = unsafe {
         let mut index = MaybeUninit::<Index>::uninit();
         let index = &mut *index.as_mut_ptr();
-        index.found = [(u32::MAX, 0); 256];
-        index.build(&image, &classes, room.as_ptr());
-        reduce(&image, &classes, heap, index, room.as_mut_ptr(), steps, depth)
+        if !image.methods.is_empty() {
+            index.found = [(u32::MAX, 0); 256];
+        }
+        index.build(&image, classes, room.as_ptr());
+        reduce(&image, classes, heap, index, room.as_mut_ptr(), steps, depth)
     };
     room.fill(0);
     Answer { number: end.number, place: end.place, count: steps - end.left, value: end.value }

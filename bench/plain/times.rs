@@ -5,8 +5,9 @@ use crate::machine;
 use std::time::Instant;
 
 /// The library's answer. Compiled anew for Arm, it takes the place of its result as a first argument; elsewhere it is C's.
+#[cfg(library)]
 #[repr(C)]
-pub struct Ended {
+struct Ended {
     number: u64,
     place: u64,
     count: u64,
@@ -87,6 +88,8 @@ pub fn print(path: &str, rounds: u32) {
         eprintln!("{path}: {wrong}");
         std::process::exit(2)
     });
+    #[cfg(library)]
+    let mut differ = false;
     for case in read(&text) {
         let mut heap = case.heap.clone();
         let mut room = vec![0; case.room];
@@ -99,8 +102,10 @@ pub fn print(path: &str, rounds: u32) {
             let after = heap.clone();
             heap.copy_from_slice(&case.heap);
             let theirs = library(&case, &mut heap, &mut room);
-            if theirs != found || heap != after {
+            if theirs != found || heap != after || room.iter().any(|&w| w != 0) {
                 println!("{:30} the answers differ: {found:?} here, {theirs:?} there", case.name);
+                room.fill(0);
+                differ = true;
                 continue;
             }
             f64::INFINITY
@@ -116,5 +121,9 @@ pub fn print(path: &str, rounds: u32) {
         println!("{:30} {:>8} steps   plain {}", case.name, count, shown(best, count));
         #[cfg(library)]
         println!("{:30} {:>8} steps   plain {}   proved {}   ratio {:.2}", case.name, count, shown(best, count), shown(other, count), other / best);
+    }
+    #[cfg(library)]
+    if differ {
+        std::process::exit(1);
     }
 }
