@@ -201,7 +201,7 @@ fn fill_classes(image: &Image, found: &mut Classes) -> Result<(), Refused> {
     }
 }
 
-pub fn is_value(word: u64) -> bool {
+fn is_value(word: u64) -> bool {
     let payload = word & 0xffff_ffff;
     match word >> 32 {
         0 | 1 => payload == 0,

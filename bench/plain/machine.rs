@@ -29,7 +29,6 @@ const FRAME: usize = 16;
 #[repr(u8)]
 enum Op {
     New,
-    CastS,
     Cast,
     Value,
     Var,
@@ -108,9 +107,10 @@ struct Node {
 struct Index {
     nodes: [MaybeUninit<Node>; MOST_NODES],
     operands: [MaybeUninit<u16>; MOST_NODES],
-    /// Methods found by class and name.
-    found: [(u32, u16); 256],
 }
+
+/// Methods that were found, by class and name: the key and the record.
+type Found = [(u32, u16); 64];
 
 fn field_offset(image: &Image, classes: &Classes, name: u32, class: u32) -> u64 {
     let c = class as usize;
@@ -174,7 +174,7 @@ impl Index {
                 }
                 1 => {
                     node.w = x as u64;
-                    if one { Op::CastS } else { Op::Cast }
+                    Op::Cast
                 }
                 2 => {
                     node.w = (x as u64) << 32 | y as u64;
@@ -289,7 +289,7 @@ struct End {
     value: u64,
 }
 
-unsafe fn reduce(image: &Image, classes: &Classes, heap: &mut [u64], index: &mut Index, room: *mut u64, steps: u64, depth: u64) -> End {
+unsafe fn reduce(image: &Image, classes: &Classes, heap: &mut [u64], index: &Index, found: &mut Found, room: *mut u64, steps: u64, depth: u64) -> End {
     let slots = heap.len() / 16;
     let nodes = index.nodes.as_ptr() as *const Node;
     let store = room;
@@ -464,7 +464,7 @@ unsafe fn reduce(image: &Image, classes: &Classes, heap: &mut [u64], index: &mut
                     n = nodes.add(node.a as usize);
                     continue 'eval;
                 }
-                Op::Cast | Op::CastS => {
+                Op::Cast => {
                     push!(Wait::Cast, n);
                     n = nodes.add(node.a as usize);
                     continue 'eval;
@@ -554,7 +554,7 @@ unsafe fn reduce(image: &Image, classes: &Classes, heap: &mut [u64], index: &mut
                     }
                     let c = class_word!(values[0]);
                     if whole && c != 0 {
-                        if let Some((body, takes)) = find_method(image, classes, index, c as usize - 1, node.w as u32) {
+                        if let Some((body, takes)) = find_method(image, classes, found, c as usize - 1, node.w as u32) {
                             if takes == count && top.add(FRAME * count) <= deepest {
                                 left -= node.cost as u64;
                                 let mut j = 0;
@@ -796,7 +796,7 @@ unsafe fn reduce(image: &Image, classes: &Classes, heap: &mut [u64], index: &mut
                         if c == 0 {
                             stuck!(above)
                         }
-                        let Some((body, takes)) = find_method(image, classes, index, c as usize - 1, node.w as u32) else { stuck!(above) };
+                        let Some((body, takes)) = find_method(image, classes, found, c as usize - 1, node.w as u32) else { stuck!(above) };
                         if takes != count {
                             stuck!(above)
                         }
@@ -872,10 +872,10 @@ unsafe fn enter_block(frame: *mut u64, store: *mut u64, x: usize, value: u64) {
 
 /// Body and argument count of the method that a class sees.
 #[inline(always)]
-unsafe fn find_method(image: &Image, classes: &Classes, index: &mut Index, class: usize, name: u32) -> Option<(usize, usize)> {
+unsafe fn find_method(image: &Image, classes: &Classes, found: &mut Found, class: usize, name: u32) -> Option<(usize, usize)> {
     let key = (class as u32) << 16 | name;
-    let entry = index.found.get_unchecked_mut((class ^ name as usize) & 255);
-    if entry.0 != key || image.methods.is_empty() {
+    let entry = found.get_unchecked_mut((class ^ name as usize) & 63);
+    if entry.0 != key {
         *entry = (key, method_of(image, classes, class, name)? as u16);
     }
     let record = image.methods.get_unchecked(6 * entry.1 as usize..6 * entry.1 as usize + 6);
@@ -900,11 +900,9 @@ pub fn run(words: &[u32], heap: &mut [u64], inputs: &[u64], room: &mut [u64], st
     let end = unsafe {
         let mut index = MaybeUninit::<Index>::uninit();
         let index = &mut *index.as_mut_ptr();
-        if !image.methods.is_empty() {
-            index.found = [(u32::MAX, 0); 256];
-        }
-        index.build(&image, classes, room.as_ptr());
-        reduce(&image, classes, heap, index, room.as_mut_ptr(), steps, depth)
+        let room = room.as_mut_ptr();
+        index.build(&image, classes, room);
+        reduce(&image, classes, heap, index, &mut [(u32::MAX, 0); 64], room, steps, depth)
     };
     room.fill(0);
     Answer { number: end.number, place: end.place, count: steps - end.left, value: end.value }
