@@ -83,47 +83,70 @@ fn shown(ns: f64, count: u64) -> String {
     format!("{:8.2} ns a step", ns / count as f64)
 }
 
+/// A case that is measured: its steps, and the best time so far of each program.
+struct Measured {
+    case: Case,
+    heap: Vec<u64>,
+    room: Vec<u64>,
+    count: u64,
+    plain: f64,
+    #[cfg(library)]
+    library: f64,
+}
+
+/// Runs a case once. With a library, none where the two answer differently, which is told.
+fn first(case: Case) -> Option<Measured> {
+    let mut heap = case.heap.clone();
+    let mut room = vec![0; case.room];
+    let found = plain(&case, &mut heap, &mut room);
+    #[cfg(library)]
+    {
+        let after = heap.clone();
+        heap.copy_from_slice(&case.heap);
+        let theirs = library(&case, &mut heap, &mut room);
+        if theirs != found || heap != after || room.iter().any(|&w| w != 0) {
+            println!("{:30} the answers differ: {found:?} here, {theirs:?} there", case.name);
+            return None;
+        }
+    }
+    Some(Measured {
+        case,
+        heap,
+        room,
+        count: found.2,
+        plain: f64::INFINITY,
+        #[cfg(library)]
+        library: f64::INFINITY,
+    })
+}
+
+/// Each round measures every case once: a busy moment of the machine then spoils no case alone.
 pub fn print(path: &str, rounds: u32) {
     let text = std::fs::read_to_string(path).unwrap_or_else(|wrong| {
         eprintln!("{path}: {wrong}");
         std::process::exit(2)
     });
-    #[cfg(library)]
-    let mut differ = false;
-    for case in read(&text) {
-        let mut heap = case.heap.clone();
-        let mut room = vec![0; case.room];
-        let found = plain(&case, &mut heap, &mut room);
-        let count = found.2;
-        let often = repeats(count);
-        let mut best = f64::INFINITY;
-        #[cfg(library)]
-        let mut other = {
-            let after = heap.clone();
-            heap.copy_from_slice(&case.heap);
-            let theirs = library(&case, &mut heap, &mut room);
-            if theirs != found || heap != after || room.iter().any(|&w| w != 0) {
-                println!("{:30} the answers differ: {found:?} here, {theirs:?} there", case.name);
-                room.fill(0);
-                differ = true;
-                continue;
-            }
-            f64::INFINITY
-        };
-        for _ in 0..rounds {
-            best = best.min(time(plain, &case, &mut heap, &mut room, often));
+    let cases = read(&text);
+    let count = cases.len();
+    let mut all: Vec<Measured> = cases.into_iter().filter_map(first).collect();
+    for _ in 0..rounds {
+        for m in &mut all {
+            let often = repeats(m.count);
+            m.plain = m.plain.min(time(plain, &m.case, &mut m.heap, &mut m.room, often));
             #[cfg(library)]
             {
-                other = other.min(time(library, &case, &mut heap, &mut room, often));
+                m.library = m.library.min(time(library, &m.case, &mut m.heap, &mut m.room, often));
             }
         }
-        #[cfg(not(library))]
-        println!("{:30} {:>8} steps   plain {}", case.name, count, shown(best, count));
-        #[cfg(library)]
-        println!("{:30} {:>8} steps   plain {}   proved {}   ratio {:.2}", case.name, count, shown(best, count), shown(other, count), other / best);
     }
-    #[cfg(library)]
-    if differ {
+    for m in &all {
+        let ours = shown(m.plain, m.count);
+        #[cfg(not(library))]
+        println!("{:30} {:>8} steps   plain {ours}", m.case.name, m.count);
+        #[cfg(library)]
+        println!("{:30} {:>8} steps   plain {ours}   proved {}   ratio {:.2}", m.case.name, m.count, shown(m.library, m.count), m.library / m.plain);
+    }
+    if all.len() != count {
         std::process::exit(1);
     }
 }
