@@ -754,6 +754,8 @@ def breached_runs():
     yield Run("refused_16_none_given", one)
     yield Run("refused_16_two_given", one, inputs=[ZERO, ZERO])
     yield Run("refused_16_the_lower_place", one, inputs=[1, ZERO])
+    for slots in (0, 2, 3):
+        yield Run("slots_%d_of_a_run" % slots, bench(number(5)), heap=heap_of(4)[:16 * slots])
     for at, word in ((0, 6), (1, 1), (48, 5 << 32), (62, LARGEST)):
         heap = heap_of(4)
         heap[at] = word
@@ -824,9 +826,10 @@ def easy_errors():
     # A block remembers what comes about by If, Seq and While, and looks once.
     two = seq(assign(1, number(1)), assign(1, number(2)), var(1))
     yield Run("remember_looks_once", bench(block(1, 2, two)))
-    yield Run("remember_after_if", bench(block(1, 2, choose(YES, seq(assign(1, number(3)), var(1)), number(0)))))
-    yield Run("remember_after_seq", bench(block(1, 2, seq(number(0), assign(1, number(3)), var(1)))))
-    yield Run("remember_after_while", bench(block(1, 2, loop(YES, assign(1, number(3))))), steps=4)
+    for depth in (1, 8):
+        yield Run("remember_after_if_depth_%d" % depth, bench(block(1, 2, choose(YES, seq(assign(1, number(3)), var(1)), number(0)))), depth=depth)
+        yield Run("remember_after_seq_depth_%d" % depth, bench(block(1, 2, seq(number(0), assign(1, number(3)), var(1)))), depth=depth)
+        yield Run("remember_after_while_depth_%d" % depth, bench(block(1, 2, loop(YES, assign(1, number(3))))), depth=depth, steps=4)
     yield Run("remember_assigned_twice", bench(block(1, 2, seq(assign(1, assign(1, number(5))), var(1)))))
     yield Run("remember_assignment_alone", bench(block(1, 2, assign(1, number(2)))))
     yield Run("remember_other_variable", bench(block(1, 2, seq(assign(2, number(2)), var(2)))))
