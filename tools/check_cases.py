@@ -1,9 +1,14 @@
 #!/usr/bin/env python3
-"""Cases for the checks of an image, in the form that check_reference.py reads.
+"""Cases for the three questions, in the form that reference.py reads.
 
     check_cases.py extra
-        prints the hand-made cases: the ceilings, and breaches of every number.
-        They are the last part of crates/answer/stdin.
+        prints the hand-made cases of the checks: the ceilings, and breaches of
+        every number. They are the last part of crates/answer/stdin.
+
+    check_cases.py runs
+        prints the hand-made runs: the bench examples (three with their check
+        too), what is refused and in which order, the limits, where it is easy
+        to go wrong, and lines that are no runs.
 
     check_cases.py damaged COUNT SEED <CASES
         prints COUNT images, each one of CASES with a few words damaged. The
@@ -12,12 +17,11 @@
 import random
 import sys
 
-from check_reference import Image, layout, read_case, BadLine
+from reference import Image, layout, read_case, BadLine
+from reference import NEW, CAST, VALUE, VAR, ADD, EQ, ASSIGN, GET, SET, CALL, BLOCK, SEQ, IF, WHILE, THROW, TRY
 
 TOP = 2 ** 32 - 1  # the largest word
 
-# The kinds of node.
-NEW, CAST, VALUE, VAR, ADD, EQ, ASSIGN, GET, SET, CALL, BLOCK, SEQ, IF, WHILE, THROW, TRY = range(16)
 
 
 class Draft:
@@ -558,6 +562,356 @@ def extra():
         sys.stdout.buffer.write(line + b"\n")
 
 
+# ---- runs
+
+LARGEST = 2 ** 64 - 1
+UNIT, NULL, FALSE, TRUE, ZERO, ADDRESS_0 = 0, 1 << 32, 2 << 32, (2 << 32) + 1, 3 << 32, 4 << 32
+
+
+def heap_of(slots, *objects):
+    """The three system objects, then these, then free slots."""
+    filled = [[2], [3], [4]] + [list(o) for o in objects]
+    return [w for o in filled + [[0]] * (slots - len(filled)) for w in o + [0] * (16 - len(o))]
+
+
+class Run:
+    """A run, with what the bench examples have unless it is said otherwise."""
+
+    def __init__(self, name, words, heap=None, inputs=(), room=None, steps=100, depth=8):
+        self.name = name
+        self.words = words
+        self.heap = heap_of(4) if heap is None else heap
+        self.inputs = inputs
+        self.room = 16 * depth + 160 if room is None else room
+        self.steps = steps
+        self.depth = depth
+
+
+def print_run(run):
+    parts = [b" ".join(b"%d" % w for w in words) for words in (run.words, run.heap, run.inputs, [run.room], [run.steps], [run.depth])]
+    sys.stdout.buffer.write(b"run %s | %s\n" % (run.name.encode(), b" | ".join(parts)))
+
+
+def bench(main, types=()):
+    """The bench examples' image: class 4 with field 7 and method 9, which gives `this.7`; main's inputs have these types."""
+    d = Draft()
+    d.classes += [0]
+    d.fields = [[4, 7, 2]]
+    d.methods = [[4, 9, 2, 0, 0, d.body(tree(GET, 7, 4, tree(VAR, 0, 0)))]]
+    d.types = list(types)
+    d.inputs = len(d.types)
+    d.body(main)
+    return d.words()
+
+
+def val(tag, payload=0):
+    return tree(VALUE, tag, payload)
+
+
+def var(x):
+    return tree(VAR, x, 0)
+
+
+def new(c):
+    return tree(NEW, c, 0)
+
+
+def add(a, b):
+    return tree(ADD, 0, 0, a, b)
+
+
+def assign(x, e):
+    return tree(ASSIGN, x, 0, e)
+
+
+def seq(*parts):
+    whole = parts[-1]
+    for part in reversed(parts[:-1]):
+        whole = tree(SEQ, 0, 0, part, whole)
+    return whole
+
+
+def block(x, t, e):
+    return tree(BLOCK, x, t, e)
+
+
+def choose(test, a, b):
+    return tree(IF, 0, 0, test, a, b)
+
+
+def loop(test, body):
+    return tree(WHILE, 0, 0, test, body)
+
+
+def throw(e, t=0):
+    return tree(THROW, t, 0, e)
+
+
+def catch(c, x, e, handler):
+    return tree(TRY, c, x, e, handler)
+
+
+def call(name, receiver, *arguments):
+    return tree(CALL, name, len(arguments), receiver, *arguments)
+
+
+def nested_sums(depth):
+    """1 + 1 + .. + 1 to the left: the first sum lies so deep."""
+    whole = number(1)
+    for _ in range(depth + 1):
+        whole = add(whole, number(1))
+    return whole
+
+
+NONE, YES, NO = val(0), val(2, 1), val(2, 0)
+FOREVER = loop(YES, NONE)
+
+
+def bench_runs():
+    double = add(var(1), var(1))
+    caught = catch(4, 1, throw(new(4), 8), var(1))
+    sums = nested_sums(2)
+    yield Run("bench_five_limit_0", bench(number(5)), steps=0)
+    yield Run("bench_add_wraps", bench(add(number(2147483647), number(1))))
+    yield Run("bench_block_written_so", bench(block(1, 2, seq(assign(1, number(2)), double))))
+    late = bench(block(1, 2, seq(assign(1, add(number(1), number(1))), double)))
+    yield Run("bench_block_brought_about", late)
+    yield Run("bench_block_brought_about_limit_4", late, steps=4)
+    yield Run("bench_input_assigned", bench(seq(assign(1, number(2)), var(1)), [2]), inputs=[ZERO + 7])
+    yield Run("bench_while_false", bench(loop(NO, NONE)))
+    yield Run("bench_catch", bench(caught))
+    yield Run("bench_catch_no_free_slot", bench(caught), heap=heap_of(3))
+    yield Run("bench_field_of_null", bench(block(1, 8, seq(assign(1, val(1)), tree(GET, 7, 4, var(1))))))
+    yield Run("bench_call", bench(call(9, new(4))))
+    yield Run("bench_unset", bench(block(1, 2, var(1))))
+    yield Run("bench_arms_differ", bench(choose(YES, val(1), new(4))))
+    yield Run("bench_throw_null", bench(throw(val(1))))
+    yield Run("bench_sums_depth_1", bench(sums), depth=1)
+    yield Run("bench_sums_depth_2", bench(sums), depth=2)
+
+
+# The numbers a run may be refused with, in their order.
+REFUSALS = [1, 2, 3, 4, 5, 6, 7, 8, 9, 10, 14, 15, 16, 19, 20]
+
+
+def broken_run(name, numbers):
+    """A run of the survey image with these numbers broken, all of them at once."""
+    d = survey()
+    if 10 in numbers:
+        d.fields = [[4, n, 2] for n in range(16)]
+    for n in numbers:
+        break_tables(d, n, -1)
+    words = d.words()
+    for n in numbers:
+        break_words(words, n)
+    run = Run(name, words, inputs=[ZERO + 7, NULL])
+    if 15 in numbers:
+        run.heap[63] = 5
+    if 14 in numbers:
+        run.heap = run.heap + [0]
+    if 16 in numbers:
+        run.inputs = [ZERO + 7]
+    if 19 in numbers:
+        run.depth = 1025
+    if 20 in numbers:
+        run.room = 0
+    return run
+
+
+def refused_runs():
+    yield broken_run("refused_nothing", [])
+    for i, n in enumerate(REFUSALS):
+        yield broken_run("refused_%d_alone" % n, [n])
+        if i + 1 < len(REFUSALS):
+            yield broken_run("refused_%d_and_all_later" % n, REFUSALS[i:])
+
+
+def breached_runs():
+    """Breaches of 11, 12, 13, 17 and 18, which a run does not ask, and places of 15 and 16."""
+    d = survey()
+    d.methods[2][2] = 0
+    yield Run("asked_not_11", d.words(), inputs=[ZERO, NULL])
+    yield Run("asked_not_12", bench(seq(add(YES, YES), number(1))))
+    yield Run("asked_not_13", bench(seq(block(1, 2, number(3)), var(1))))
+    yield Run("asked_not_17_system", bench(new(4)), heap=heap_of(4)[16:] + [0] * 16)
+    yield Run("asked_not_17_field", bench(tree(GET, 7, 4, var(1)), [8]), heap=heap_of(4, [5, TRUE]), inputs=[ADDRESS_0 + 3])
+    yield Run("asked_not_18", bench(var(1), [2]), inputs=[ADDRESS_0 + 4095])
+    one = bench(var(1), [2])
+    for word in (1, (2 << 32) + 2, ADDRESS_0 + 4096, 5 << 32, LARGEST):
+        yield Run("refused_16_word_%d" % word, one, inputs=[word])
+    yield Run("refused_16_none_given", one)
+    yield Run("refused_16_two_given", one, inputs=[ZERO, ZERO])
+    yield Run("refused_16_the_lower_place", one, inputs=[1, ZERO])
+    for slots in (0, 2, 3):
+        yield Run("slots_%d_of_a_run" % slots, bench(number(5)), heap=heap_of(4)[:16 * slots])
+    for at, word in ((0, 6), (1, 1), (48, 5 << 32), (62, LARGEST)):
+        heap = heap_of(4)
+        heap[at] = word
+        yield Run("refused_15_at_%d" % at, bench(number(5)), heap=heap)
+    yield Run("refused_15_no_value_in_a_field", bench(number(5)), heap=heap_of(4, [5, 5 << 32]))
+
+
+def limit_runs():
+    late = bench(block(1, 2, seq(assign(1, add(number(1), number(1))), add(var(1), var(1)))))
+    for steps in range(7):
+        yield Run("steps_%d_of_5" % steps, late, steps=steps)
+    for name, main in (("value", number(5)), ("sum", add(number(1), number(2))), ("null_thrown", throw(val(1))), ("stuck", var(1))):
+        for steps in (0, LARGEST):
+            yield Run("steps_%d_%s" % (steps, name), bench(main), steps=steps)
+    yield Run("steps_0_too_deep", bench(nested_sums(2)), steps=0, depth=1)
+    yield Run("steps_0_too_deep_and_stuck", bench(add(add(add(YES, YES), YES), YES)), steps=0, depth=1)
+    for steps in (2, 1000):
+        yield Run("steps_%d_forever" % steps, bench(FOREVER), steps=steps)
+    yield Run("steps_stop_a_field_set", bench(tree(SET, 7, 4, var(1), number(9)), [8]), heap=heap_of(4, [5, ZERO]), inputs=[ADDRESS_0 + 3], steps=1)
+    yield Run("steps_stop_new", bench(seq(new(4), new(4))), heap=heap_of(5), steps=2)
+
+
+def room_runs():
+    five = bench(number(5))
+    for depth in (0, 1025, 2 ** 32, 2 ** 32 + 8, 2 ** 60, LARGEST):
+        yield Run("depth_%d" % depth, five, depth=depth, room=16 * (depth % 2 ** 32 % 1026) + 160)
+    for depth in (1, 8, 1024):
+        for less in (0, 1):
+            yield Run("depth_%d_room_%d_less" % (depth, less), five, depth=depth, room=16 * depth + 160 - less)
+    yield Run("depth_1024_room_0", five, depth=1024, room=0)
+    yield Run("depth_1025_room_0", five, depth=1025, room=0)
+    for depth in (1, 1024):
+        yield Run("depth_%d_room_large" % depth, bench(nested_sums(2)), depth=depth, room=131072)
+
+
+def depth_runs():
+    for depth in (1, 8):
+        yield Run("sums_%d_deep" % depth, bench(nested_sums(depth)), depth=depth)
+        yield Run("sums_%d_deep_and_one" % depth, bench(nested_sums(depth + 1)), depth=depth)
+    for more in (0, 1):
+        yield Run("sums_%d_deep_most" % (1024 + more), bench(nested_sums(1024 + more)), depth=1024, steps=2000)
+    for name, body in (("value", number(5)), ("sum", add(number(1), number(2)))):
+        for depth in (7, 8, 9):
+            yield Run("eight_arguments_%s_depth_%d" % (name, depth), eight_arguments(body), depth=depth)
+    again = Draft()
+    again.classes += [0]
+    again.methods = [[4, 9, 2, 0, 0, again.body(call(9, var(0)))]]
+    again.body(call(9, new(4)))
+    for depth in (1, 9, 1024):
+        yield Run("calls_itself_depth_%d" % depth, again.words(), depth=depth, steps=LARGEST)
+    inner = block(1, 2, seq(assign(1, number(1)), block(2, 2, seq(assign(2, number(2)), add(var(1), var(2))))))
+    for depth in (1, 2, 3):
+        yield Run("remembering_blocks_depth_%d" % depth, bench(inner), depth=depth)
+        yield Run("unremembered_depth_%d" % depth, bench(block(1, 2, seq(assign(1, add(number(1), number(1))), var(1)))), depth=depth)
+
+
+def eight_arguments(body):
+    """Method 9 takes eight Integers; its call lies at the root, so its blocks take the depths 0 to 8."""
+    d = Draft()
+    d.classes += [0]
+    d.types = [2] * 8
+    d.methods = [[4, 9, 2, 0, 8, d.body(body)]]
+    d.body(call(9, new(4), *[number(n) for n in range(8)]))
+    return d.words()
+
+
+def easy_errors():
+    # A block remembers what comes about by If, Seq and While, and looks once.
+    two = seq(assign(1, number(1)), assign(1, number(2)), var(1))
+    yield Run("remember_looks_once", bench(block(1, 2, two)))
+    for depth in (1, 8):
+        yield Run("remember_after_if_depth_%d" % depth, bench(block(1, 2, choose(YES, seq(assign(1, number(3)), var(1)), number(0)))), depth=depth)
+        yield Run("remember_after_seq_depth_%d" % depth, bench(block(1, 2, seq(number(0), assign(1, number(3)), var(1)))), depth=depth)
+        yield Run("remember_after_while_depth_%d" % depth, bench(block(1, 2, loop(YES, assign(1, number(3))))), depth=depth, steps=4)
+    yield Run("remember_assigned_twice", bench(block(1, 2, seq(assign(1, assign(1, number(5))), var(1)))))
+    yield Run("remember_assignment_alone", bench(block(1, 2, assign(1, number(2)))))
+    yield Run("remember_other_variable", bench(block(1, 2, seq(assign(2, number(2)), var(2)))))
+    yield Run("remember_through_a_variable", bench(block(1, 2, seq(assign(1, var(2)), var(1))), [2, 2]), inputs=[ZERO, ZERO + 6])
+    # A field is the annotated class's, also where the object's own class hides it.
+    d = Draft()
+    d.classes += [0, 4]
+    d.fields = [[4, 7, 2], [5, 7, 2]]
+    d.types, d.inputs = [9], 1
+    d.body(seq(tree(SET, 7, 4, var(1), number(40)), add(tree(GET, 7, 4, var(1)), tree(GET, 7, 5, var(1)))))
+    yield Run("field_of_the_annotation", d.words(), heap=heap_of(4, [6, ZERO + 1, ZERO + 2]), inputs=[ADDRESS_0 + 3])
+    # A null object is thrown at after the value is worked out, and whatever the field or method.
+    yield Run("set_null_value_first", bench(tree(SET, 7, 4, val(1), assign(1, number(9))), [2]), inputs=[ZERO])
+    yield Run("set_null_value_throws", bench(tree(SET, 7, 4, val(1), throw(new(4)))))
+    yield Run("call_null_unknown_method", bench(call(77, val(1), number(1))))
+    yield Run("get_null_unknown_field", bench(tree(GET, 77, 0, val(1))))
+    # A callee's variables are gone after its return; what it assigns to others stays.
+    d = Draft()
+    d.classes += [0]
+    d.types = [2]
+    d.methods = [[4, 9, 2, 0, 1, d.body(seq(assign(2, number(6)), assign(1, number(5))))]]
+    d.body(seq(call(9, new(4), number(1)), var(1)))
+    yield Run("callee_variable_gone", d.words())
+    d.nodes[-2] = var(2)[0]
+    yield Run("callee_assignment_stays", d.words())
+
+
+def stuck_runs():
+    object_3 = {"heap": heap_of(4, [5, ZERO]), "inputs": [ADDRESS_0 + 3]}
+    nowhere = {"inputs": [ADDRESS_0 + 9]}
+    free = {"inputs": [ADDRESS_0 + 3]}
+    for name, main in (
+            ("cast", tree(CAST, 4, 0, number(1))), ("var", var(5)), ("add", add(number(1), YES)), ("get", tree(GET, 7, 4, number(1))),
+            ("set", tree(SET, 7, 4, YES, new(4))), ("call", call(9, number(1))), ("if", choose(number(1), NONE, NONE)),
+            ("while", loop(NONE, NONE)), ("throw_unit", throw(NONE)), ("throw_integer", throw(throw(number(1)))), ("this", var(0))):
+        yield Run("stuck_%s" % name, bench(main))
+    for name, main in (("cast", tree(CAST, 4, 0, var(1))), ("get", tree(GET, 7, 4, var(1))), ("call", call(9, var(1))), ("try", catch(0, 2, throw(var(1)), NONE))):
+        yield Run("stuck_%s_nowhere" % name, bench(main, [8]), **nowhere)
+        yield Run("stuck_%s_free_slot" % name, bench(main, [8]), **free)
+    yield Run("stuck_field_not_had", bench(tree(GET, 7, 4, var(1)), [8]), inputs=[ADDRESS_0 + 1])
+    yield Run("stuck_field_of_another_class", bench(tree(SET, 7, 0, var(1), NONE), [8]), **object_3)
+    yield Run("stuck_method_not_seen", bench(call(8, var(1)), [8]), **object_3)
+    yield Run("stuck_argument_count", bench(call(9, var(1), number(1)), [8]), **object_3)
+    yield Run("thrown_nowhere", bench(throw(var(1)), [8]), **nowhere)
+    yield Run("thrown_past_a_try", bench(catch(4, 2, throw(var(1)), NONE), [8]), inputs=[ADDRESS_0])
+    yield Run("cast_fails", bench(tree(CAST, 4, 0, var(1)), [8]), inputs=[ADDRESS_0])
+    yield Run("cast_null", bench(tree(CAST, 4, 0, val(1))))
+    yield Run("new_takes_slot_0", bench(new(4)), heap=[0] * 48)
+
+
+def runs():
+    for part in (bench_runs, refused_runs, breached_runs, limit_runs, room_runs, depth_runs, easy_errors, stuck_runs):
+        yield from part()
+
+
+# What is wrong with a line of a run, from its front to its end.
+ODD_RUNS = [
+    b"run a | 1",
+    b"run no_image |",
+    b"run no_bars_after_inputs | 1 | 2 | 3",
+    b"run no_limits | 1 | 2 | 3 | 4",
+    b"run no_depth_limit | 1 | 2 | 3 | 4 | 5",
+    b"run empty_depth_limit | 1 | 2 | 3 | 4 | 5 |",
+    b"run empty_parts | | | | | |",
+    b"run image_letters | 1x | 2 | 3 | 4 | 5 | 6",
+    b"run heap_letters | 1 | 2x | 3 | 4 | 5 | 6",
+    b"run input_letters | 1 | 2 | 3x | 4 | 5 | 6",
+    b"run room_letters | 1 | 2 | 3 | 4x | 5 | 6",
+    b"run two_rooms | 1 | 2 | 3 | 4 4 | 5 | 6",
+    b"run step_limit_too_large | 1 | 2 | 3 | 4 | 18446744073709551616 | 6",
+    b"run depth_limit_too_large | 1 | 2 | 3 | 4 | 5 | 18446744073709551616",
+    b"run depth_limit_minus | 1 | 2 | 3 | 4 | 5 | -6",
+    b"run a_bar_too_many | 1 | 2 | 3 | 4 | 5 | 6 |",
+    b"run a_part_too_many | 1 | 2 | 3 | 4 | 5 | 6 | 7",
+    b"run room_wrong_and_the_rest_missing | 1 | 2 | 3 | x",
+    b"run blanks_and_zeros\t|\t" + SMALLEST + b"\t|" + SYSTEM + b" ||\t00176 |007 | 1\r",
+    b"runs a | 1 | 2 | 3 | 4 | 5 | 6",
+    b"ru a | 1 | 2 | 3 | 4 | 5 | 6",
+]
+
+
+def print_runs():
+    print_case("bench_check_unset", bench(block(1, 2, var(1))))
+    print_case("bench_check_arms_differ", bench(choose(YES, val(1), new(4))))
+    print_case("bench_check_throw_null", bench(throw(val(1))))
+    names = set()
+    for run in runs():
+        assert run.name not in names, run.name
+        names.add(run.name)
+        print_run(run)
+    for line in ODD_RUNS:
+        sys.stdout.buffer.write(line + b"\n")
+
+
 # ---- damaged images
 
 def likely(random, classes, old):
@@ -660,6 +1014,8 @@ def print_damaged(count, seed):
 def main():
     if sys.argv[1:] == ["extra"]:
         extra()
+    elif sys.argv[1:] == ["runs"]:
+        print_runs()
     elif len(sys.argv) == 4 and sys.argv[1] == "damaged":
         print_damaged(int(sys.argv[2]), int(sys.argv[3]))
     else:

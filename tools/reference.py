@@ -1,17 +1,21 @@
 #!/usr/bin/env python3
-"""The image check and the conformity check, written down a second time to compare with.
+"""The three questions, written down a second time to compare with.
 
 Reads cases on standard input, one a line:
 
     check NAME | the image's words in decimal, separated by blanks
     conform NAME | the image's words | the heap's words | the inputs
+    run NAME | the image's words | the heap's words | the inputs | words of room | step limit | depth limit
 
 and prints `NAME number place` for each, or `line N: what is wrong` for a line
-that is no such case. An empty line is passed over.
+that is no such case. A run that is not refused prints its end, `NAME number
+place count value | the heap's words after it`, with `-` where the end has no
+value. An empty line is passed over.
 
 This file follows the written rules and nothing else, in their order, as
 plainly as it can. It is slow on purpose: each number is one function that
-lists every breach of it, and the answer is the lowest of them.
+lists every breach of it, and the answer is the lowest of them. The run goes
+down from the root to the active place before every step.
 """
 import re
 import sys
@@ -26,6 +30,9 @@ LAST_VARIABLE = 63
 MOST_WORDS = 131072
 MOST_SLOTS = 4096
 LONGEST_NAME = 64
+
+# The kinds of node.
+NEW, CAST, VALUE, VAR, ADD, EQ, ASSIGN, GET, SET, CALL, BLOCK, SEQ, IF, WHILE, THROW, TRY = range(16)
 
 
 class Image:
@@ -485,8 +492,8 @@ def breaches_18(image, heap, inputs):
             yield i
 
 
-def conform(words, heap, inputs):
-    """The answer of the conformity check."""
+def loose(words, heap, inputs):
+    """The answer as far as conformity check and run ask the same: 1 to 10 and 14 to 16."""
     number, place = layout(words)
     if number:
         return number, place
@@ -494,11 +501,362 @@ def conform(words, heap, inputs):
     places = list(breaches_10(image))
     if places:
         return 10, min(places)
-    for number, breaches in enumerate((breaches_14, breaches_15, breaches_16, breaches_17, breaches_18), 14):
+    for number, breaches in enumerate((breaches_14, breaches_15, breaches_16), 14):
         places = list(breaches(image, heap, inputs))
         if places:
             return number, min(places)
     return 0, 0
+
+
+def conform(words, heap, inputs):
+    """The answer of the conformity check."""
+    number, place = loose(words, heap, inputs)
+    if number:
+        return number, place
+    image = Image(words)
+    for number, breaches in enumerate((breaches_17, breaches_18), 17):
+        places = list(breaches(image, heap, inputs))
+        if places:
+            return number, min(places)
+    return 0, 0
+
+
+# The run. A value is its word. An expression is a tree, and every step makes a new one.
+
+UNIT, NULL, FALSE, TRUE, ZERO, ADDRESS_0 = 0, 1 << 32, 2 << 32, (2 << 32) + 1, 3 << 32, 4 << 32
+NULL_POINTER, CLASS_CAST, OUT_OF_MEMORY = 0, 1, 2  # the addresses of the system exceptions
+MOST_DEPTH = 1024
+
+
+class Tree:
+    """An expression: its kind, the node it stands for, x and y, and its operands.
+
+    A value has its word. A block has the word that it remembers, or None.
+    """
+
+    __slots__ = ("kind", "place", "x", "y", "parts", "word")
+
+    def __init__(self, kind, place, x=0, y=0, parts=(), word=None):
+        self.kind = kind
+        self.place = place
+        self.x = x
+        self.y = y
+        self.parts = parts
+        self.word = word
+
+    def with_part(self, i, part):
+        parts = self.parts[:i] + (part,) + self.parts[i + 1:]
+        return Tree(self.kind, self.place, self.x, self.y, parts, self.word)
+
+
+def value(place, word):
+    return Tree(VALUE, place, word=word)
+
+
+def thrown(place, a):
+    """Throw of an address."""
+    return Tree(THROW, place, parts=(value(place, ADDRESS_0 + a),))
+
+
+def remembering(place, x, word, body):
+    return Tree(BLOCK, place, x, parts=(body,), word=word)
+
+
+def settled(block):
+    """The block itself; where it does not remember and its body is `V := value; e` for its own V, it remembers that value."""
+    body = block.parts[0]
+    if block.word is None and body.kind == SEQ:
+        first, rest = body.parts
+        if first.kind == ASSIGN and first.x == block.x and first.parts[0].kind == VALUE:
+            return remembering(block.place, block.x, first.parts[0].word, rest)
+    return block
+
+
+def load(image):
+    """The tree of each node."""
+    trees = []
+    for n, (kind, _, x, y) in enumerate(image.nodes):
+        parts = tuple(trees[m] for m in operand_nodes(image, n))
+        tree = Tree(kind, n, x, y, parts)
+        if kind == VALUE:
+            tree = value(n, (x << 32) + y)
+        if kind == BLOCK:
+            tree = settled(tree)
+        trees.append(tree)
+    return trees
+
+
+def is_address(tree):
+    return tree.kind == VALUE and tree.word >> 32 == 4
+
+
+def address(word):
+    return word % 2 ** 32
+
+
+def is_thrown(tree):
+    return tree.kind == THROW and is_address(tree.parts[0])
+
+
+def is_final(tree):
+    return tree.kind == VALUE or is_thrown(tree)
+
+
+def first_operands(tree):
+    """The operands that are worked out before the node itself, in their order."""
+    if tree.kind in (CAST, ASSIGN, GET, BLOCK, SEQ, IF, THROW, TRY):
+        return tree.parts[:1]
+    if tree.kind in (ADD, EQ, SET, CALL):
+        return tree.parts
+    return ()  # New, Value, Var, While
+
+
+def operand_to_step(tree):
+    """The number of the operand that the rules let step, or None."""
+    for i, part in enumerate(first_operands(tree)):
+        if not is_final(part):
+            return i
+        if is_thrown(part):
+            return None
+    return None
+
+
+def with_variable(store, x, word):
+    return store[:x] + (word,) + store[x + 1:]
+
+
+def find_active(tree, store):
+    """The way to the active place: each tree above it with the operand gone into and the store outside; then the place and its store."""
+    way = []
+    while True:
+        i = operand_to_step(tree)
+        if i is None:
+            return way, tree, store
+        way.append((tree, i, store))
+        if tree.kind == BLOCK:
+            store = with_variable(store, tree.x, tree.word)
+        tree = tree.parts[i]
+
+
+def put_back(way, tree, store):
+    """The whole expression and its store, when the active place has become this tree and left this store."""
+    for around, i, outside in reversed(way):
+        tree = around.with_part(i, tree)
+        if around.kind == BLOCK:
+            tree.word = store[around.x]
+            tree = settled(tree)
+            store = with_variable(store, around.x, outside[around.x])
+    return tree, store
+
+
+class State:
+    """Heap and store at the active place, and the program."""
+
+    def __init__(self, image, trees, heap, store):
+        self.image = image
+        self.trees = trees
+        self.heap = heap
+        self.store = store
+
+    def class_at(self, a):
+        """The class of the object at an address, or None."""
+        first = self.heap[16 * a] if 16 * a < len(self.heap) else 0
+        return first - 1 if first else None
+
+    def field_at(self, a, owner, name):
+        """The heap word of an object's field that a class declares, or None."""
+        c = self.class_at(a)
+        if c is None:
+            return None
+        keys = [record[0:2] for d in reversed(above(self.image, c)) for record in self.image.fields if record[0] == d]
+        return 16 * a + 1 + keys.index([owner, name]) if [owner, name] in keys else None
+
+    def with_words(self, at, words):
+        heap = list(self.heap)
+        heap[at:at + len(words)] = words
+        return heap
+
+
+# Each rule takes the state and a tree whose operands are worked out. It gives the tree that comes after it with heap and store,
+# or None where the report has no rule.
+
+def rule_new(state, tree):
+    for a in range(len(state.heap) // 16):
+        if state.class_at(a) is None:
+            first = {VOID: UNIT, BOOL: FALSE, INTEGER: ZERO}
+            words = [tree.x + 1] + [first.get(t, NULL) for t in fields_of(state.image, tree.x)]
+            return value(tree.place, ADDRESS_0 + a), state.with_words(16 * a, words), state.store
+    return thrown(tree.place, OUT_OF_MEMORY), state.heap, state.store
+
+
+def rule_cast(state, tree):
+    operand = tree.parts[0]
+    if operand.word == NULL:
+        return operand, state.heap, state.store
+    if not is_address(operand):
+        return None
+    c = state.class_at(address(operand.word))
+    if c is None:
+        return None
+    if tree.x in above(state.image, c):
+        return operand, state.heap, state.store
+    return thrown(tree.place, CLASS_CAST), state.heap, state.store
+
+
+def rule_var(state, tree):
+    word = state.store[tree.x]
+    if word is None:
+        return None
+    return value(tree.place, word), state.heap, state.store
+
+
+def rule_add(state, tree):
+    a, b = (part.word for part in tree.parts)
+    if a >> 32 != 3 or b >> 32 != 3:
+        return None
+    return value(tree.place, ZERO + (a + b) % 2 ** 32), state.heap, state.store
+
+
+def rule_eq(state, tree):
+    a, b = (part.word for part in tree.parts)
+    return value(tree.place, TRUE if a == b else FALSE), state.heap, state.store
+
+
+def rule_assign(state, tree):
+    word = tree.parts[0].word
+    return value(tree.place, word), state.heap, with_variable(state.store, tree.x, word)
+
+
+def rule_get(state, tree):
+    operand = tree.parts[0]
+    if operand.word == NULL:
+        return thrown(tree.place, NULL_POINTER), state.heap, state.store
+    at = state.field_at(address(operand.word), tree.y, tree.x) if is_address(operand) else None
+    if at is None:
+        return None
+    return value(tree.place, state.heap[at]), state.heap, state.store
+
+
+def rule_set(state, tree):
+    operand, new = tree.parts
+    if operand.word == NULL:
+        return thrown(tree.place, NULL_POINTER), state.heap, state.store
+    at = state.field_at(address(operand.word), tree.y, tree.x) if is_address(operand) else None
+    if at is None:
+        return None
+    return new, state.with_words(at, [new.word]), state.store
+
+
+def rule_call(state, tree):
+    receiver, arguments = tree.parts[0], tree.parts[1:]
+    if receiver.word == NULL:
+        return thrown(tree.place, NULL_POINTER), state.heap, state.store
+    c = state.class_at(address(receiver.word)) if is_address(receiver) else None
+    method = seen(state.image, state.image.methods, c, tree.x) if c is not None else None
+    if method is None or method[4] != len(arguments):
+        return None
+    body = state.trees[method[5]]
+    for x in reversed(range(len(tree.parts))):  # `this` outermost
+        body = remembering(tree.place, x, tree.parts[x].word, body)
+    return body, state.heap, state.store
+
+
+def rule_block(state, tree):
+    return tree.parts[0], state.heap, state.store
+
+
+def rule_seq(state, tree):
+    return tree.parts[1], state.heap, state.store
+
+
+def rule_if(state, tree):
+    test = tree.parts[0].word
+    if test >> 32 != 2:
+        return None
+    return tree.parts[1 if test == TRUE else 2], state.heap, state.store
+
+
+def rule_while(state, tree):
+    test, body = tree.parts
+    again = Tree(SEQ, tree.place, parts=(body, tree))
+    return Tree(IF, tree.place, parts=(test, again, value(tree.place, UNIT))), state.heap, state.store
+
+
+def rule_throw(state, tree):
+    if tree.parts[0].word != NULL:  # Throw of an address is final, and not active
+        return None
+    return thrown(tree.place, NULL_POINTER), state.heap, state.store
+
+
+def rule_try(state, tree):
+    return tree.parts[0], state.heap, state.store
+
+
+def rule_catch(state, tree):
+    """A Try whose first part throws an address."""
+    exception = tree.parts[0].parts[0].word
+    c = state.class_at(address(exception))
+    if c is None:
+        return None
+    if tree.x in above(state.image, c):
+        return remembering(tree.place, tree.y, exception, tree.parts[1]), state.heap, state.store
+    return tree.parts[0], state.heap, state.store
+
+
+def rule_outward(state, tree):
+    """Any other node with an operand that throws an address: the exception moves outward."""
+    exception = next(part for part in first_operands(tree) if is_thrown(part))
+    return exception, state.heap, state.store
+
+
+RULES = {
+    NEW: rule_new, CAST: rule_cast, VAR: rule_var, ADD: rule_add, EQ: rule_eq, ASSIGN: rule_assign, GET: rule_get,
+    SET: rule_set, CALL: rule_call, BLOCK: rule_block, SEQ: rule_seq, IF: rule_if, WHILE: rule_while,
+    THROW: rule_throw, TRY: rule_try,
+}
+
+
+def step(state, tree):
+    """What the active place becomes."""
+    if any(is_thrown(part) for part in first_operands(tree)):
+        return rule_catch(state, tree) if tree.kind == TRY else rule_outward(state, tree)
+    return RULES[tree.kind](state, tree)
+
+
+def reduce(image, heap, inputs, limit, depth):
+    """The end of a run: number, place, count, value or None, and the heap."""
+    trees = load(image)
+    tree = trees[image.main]
+    store = (None,) + tuple(inputs) + (None,) * (LAST_VARIABLE - len(inputs))
+    count = 0
+    while True:
+        if tree.kind == VALUE:
+            return 30, 0, count, tree.word, heap
+        if is_thrown(tree):
+            return 31, 0, count, tree.parts[0].word, heap
+        way, place, inner = find_active(tree, store)
+        if len(way) > depth:
+            return 33, 0, count, None, heap
+        found = step(State(image, trees, heap, inner), place)
+        if found is None:
+            return 34, place.place, count, None, heap
+        if count == limit:
+            return 32, 0, count, None, heap
+        became, heap, inner = found
+        tree, store = put_back(way, became, inner)
+        count += 1
+
+
+def run(words, heap, inputs, room, limit, depth):
+    """The answer of the run: number and place; an end has count, value and heap too."""
+    number, place = loose(words, heap, inputs)
+    if number:
+        return number, place
+    if not 1 <= depth <= MOST_DEPTH:
+        return 19, 0
+    if room < 16 * depth + 160:
+        return 20, 0
+    return reduce(Image(words), heap, inputs, limit, depth)
 
 
 class BadLine(Exception):
@@ -537,8 +895,8 @@ def read_head(line):
     """The question and the name of a case, and what follows the bar."""
     head, bar, tail = line.partition(b"|")
     parts = split(head)
-    if parts[:1] not in ([b"check"], [b"conform"]):
-        raise BadLine("the question is not known (known: check, conform)")
+    if parts[:1] not in ([b"check"], [b"conform"], [b"run"]):
+        raise BadLine("the question is not known (known: check, conform, run)")
     if len(parts) < 2:
         raise BadLine("there is no name")
     if len(parts[1]) > LONGEST_NAME:
@@ -555,33 +913,62 @@ def image_of(text):
 def read_case(line):
     """The name and the image of a case."""
     question, name, tail = read_head(line)
-    return name, image_of(split_parts(tail)[0] if question == b"conform" else tail)
+    return name, image_of(tail if question == b"check" else split_parts(tail, 3)[0])
 
 
-def split_parts(tail):
-    """What stands before and after the first two bars. A bar stands after a blank or a bar."""
-    return re.split(rb"(?:^|(?<=[ \t\r|]))\|", tail, maxsplit=2)
+def split_parts(tail, most):
+    """What stands before, between and after the bars, the last part with all that follows. A bar stands after a blank or a bar."""
+    return re.split(rb"(?:^|(?<=[ \t\r|]))\|", tail, maxsplit=most - 1)
 
 
-def read_conform(tail):
-    """Image, heap and inputs."""
-    parts = split_parts(tail)
-    image, heap, last = parts + [b""] * (3 - len(parts))
+def read_setting(parts):
+    """Image, heap and inputs: the first three parts."""
+    image, heap, last = (parts + [b"", b""])[:3]
     full = "there are more than 131072 words of heap and inputs"
     words = image_of(image)
     held = words_of(heap, "heap word", 64, MOST_WORDS, full)
     inputs = words_of(last, "input", 64, MOST_WORDS - len(held), full)
-    if len(parts) < 3:
-        raise BadLine("image, heap and inputs are asked for, with a bar before each")
     return words, held, inputs
 
 
+def read_conform(tail):
+    parts = split_parts(tail, 3)
+    setting = read_setting(parts)
+    if len(parts) < 3:
+        raise BadLine("image, heap and inputs are asked for, with a bar before each")
+    return setting
+
+
+def read_run(tail):
+    """Image, heap and inputs, the length of the room, and the two limits."""
+    parts = split_parts(tail, 6)
+    setting = read_setting(parts)
+    numbers = []
+    for i, subject in ((3, "room"), (4, "step limit"), (5, "depth limit")):
+        if len(parts) <= i:
+            raise BadLine("image, heap, inputs, room, step limit and depth limit are asked for, with a bar before each")
+        words = split(parts[i])
+        number = word_of(words[0], 64) if len(words) == 1 else None
+        if number is None:
+            raise BadLine("the %s is no decimal number of 64 bits" % subject)
+        numbers.append(number)
+    return setting + tuple(numbers)
+
+
 def answer(line):
-    """The name of a case, and the answer."""
+    """The line that answers a case."""
     question, name, tail = read_head(line)
-    if question == b"conform":
-        return (name,) + conform(*read_conform(tail))
-    return (name,) + check(image_of(tail))
+    if question == b"check":
+        found = check(image_of(tail))
+    elif question == b"conform":
+        found = conform(*read_conform(tail))
+    else:
+        found = run(*read_run(tail))
+    text = b"%s %d %d" % ((name,) + found[:2])
+    if len(found) > 2:
+        count, word, heap = found[2:]
+        text += b" %d %s | %s" % (count, b"-" if word is None else b"%d" % word, b" ".join(b"%d" % w for w in heap))
+    return text
 
 
 def main():
@@ -591,7 +978,7 @@ def main():
         if not split(line):
             continue
         try:
-            out.write(b"%s %d %d\n" % answer(line))
+            out.write(answer(line) + b"\n")
         except BadLine as wrong:
             out.write(b"line %d: %s\n" % (number, str(wrong).encode()))
 
