@@ -6,11 +6,15 @@ use lib.ListN.{length, replicate}
 use Rattle.order.specs.Rules.{accepted, answerOf}
 use Rattle.order.specs.declared.Answer.{Answer}
 use Rattle.image.specs.Layout.{breachNumbers}
+use Rattle.words.specs.declared.Value.the-variants.{Addr}
+use Rattle.words.specs.Value.{wordOf}
 use Rattle.rules.specs.declared.End.{End}
+use Rattle.rules.specs.declared.End.the-variants.{Returned, Threw, OutOfSteps, TooDeep, Stuck}
 use Rattle.rules.specs.Run.{runOf, heapAfter}
 use Rattle.rules.specs.Numbers.{runRules, endNumbers}
 use Rattle.run.specs.declared.Refusal.{Refusal}
 use Rattle.run.specs.declared.Refusal.the-variants.{Layout, Fields, HeapLength, HeapWord, Input, Depth, Room}
+use Rattle.run.specs.declared.Told.{Told}
 use Rattle.run.specs.declared.Ran.{Ran}
 use Rattle.run.specs.declared.Ran.the-variants.{Refused, Ended as Over}
 
@@ -26,6 +30,19 @@ refusalNumbers Room = record { number = 20; place = 0 }
 abbrev pub ranNumbers : Ran → Answer
 ranNumbers (Refused f) = refusalNumbers f
 ranNumbers (Over e k) = endNumbers e
+
+-- the word that an end carries, and what a caller gets of an answer
+abbrev pub endWord : End → ℕ
+endWord (Returned v) = wordOf v
+endWord (Threw a) = wordOf (Addr a)
+endWord OutOfSteps = 0
+endWord TooDeep = 0
+endWord (Stuck q) = 0
+
+abbrev pub toldOf : Ran → Told
+toldOf (Refused f) =
+    record { number = refusalNumbers f .number; place = refusalNumbers f .place; count = 0; value = 0 }
+toldOf (Over e k) = record { number = endNumbers e .number; place = endNumbers e .place; count = k; value = endWord e }
 
 module _ (ws hs is lent : List ℕ) (steps depth : ℕ) where
   -- a refusal tells the first breach, and changes no word; an end tells the definition's run, and clears the room

@@ -7,11 +7,11 @@ ghost use Rattle.order.specs.declared.Found.the-variants.{Nowhere};
 ghost use Rattle.image.specs.Numbers.{mostInputs};
 ghost use Rattle.image.specs.Layout.{layoutRules, Good};
 ghost use Rattle.rules.specs.Run.{runOf};
-ghost use Rattle.rules.specs.Numbers.{fieldsRule};
+ghost use Rattle.rules.specs.Numbers.{fieldsRule, endNumbers};
 ghost use Rattle.laws.specs.Values.{IsValue};
 ghost use Rattle.heap.specs.Rows.{Sizes, Rows};
 ghost use Rattle.machine.specs.Finished.{Finishes};
-ghost use Rattle.run.specs.Answers.{Answers};
+ghost use Rattle.run.specs.Answers.{refusalNumbers, endWord, toldOf, Answers};
 ghost use Rattle.run.specs.Start.{Zeros, Filled, startWords};
 ghost use Rattle.run.specs.Judged.{Free, Judges};
 use heap::TABLE_WORDS;
@@ -20,8 +20,10 @@ use image::Laid;
 use image::Layout;
 use image::MOST_CLASSES;
 use machine::Finished;
+use order::Answer;
 use order::Found;
 use rules::End;
+use words::Value;
 
 // The words that hold variables, and the one behind them that says where New goes on to look.
 const START_WORDS: usize = 65;
@@ -192,5 +194,115 @@ pub fn run(
     match layout::layout_of_image(image) {
         Laid::Broken(b) => Ran::Refused(Refusal::Layout(b)),
         Laid::Sound(l) => run_laid(image, l, heap, inputs, room, steps, depth),
+    }
+}
+
+// What a caller gets, as numbers: the paper's number and place, the steps taken, and the word of the value or address that an end
+// carries. The word and the count are 0 where there is none.
+pub struct Told {
+    pub number: u64,
+    pub place: u64,
+    pub count: u64,
+    pub value: u64,
+}
+
+// The number and place of a refusal.
+fn refusal_answer(f: Refusal) -> Answer
+    ensures { λ r. ⌜ r ≡ refusalNumbers f ⌝ }
+{
+    match f {
+        Refusal::Layout(b) => image::breach_answer(b),
+        Refusal::Fields(p) => Answer {
+            number: 10,
+            place: p as u64,
+        },
+        Refusal::HeapLength => Answer {
+            number: 14,
+            place: 0,
+        },
+        Refusal::HeapWord(p) => Answer {
+            number: 15,
+            place: p as u64,
+        },
+        Refusal::Input(p) => Answer {
+            number: 16,
+            place: p as u64,
+        },
+        Refusal::Depth => Answer {
+            number: 19,
+            place: 0,
+        },
+        Refusal::Room => Answer {
+            number: 20,
+            place: 0,
+        },
+    }
+}
+
+// The number and place of an end.
+fn end_answer(e: End) -> Answer
+    ensures { λ r. ⌜ r ≡ endNumbers e ⌝ }
+{
+    match e {
+        End::Returned(_) => Answer {
+            number: 30,
+            place: 0,
+        },
+        End::Threw(_) => Answer {
+            number: 31,
+            place: 0,
+        },
+        End::OutOfSteps => Answer {
+            number: 32,
+            place: 0,
+        },
+        End::TooDeep => Answer {
+            number: 33,
+            place: 0,
+        },
+        End::Stuck(q) => Answer {
+            number: 34,
+            place: q as u64,
+        },
+    }
+}
+
+// The word that an end carries.
+fn end_word(e: End) -> u64
+    ensures { λ r. ⌜ r ≡ endWord e ⌝ }
+{
+    match e {
+        End::Returned(v) => words::word_of(v),
+        End::Threw(a) => words::word_of(Value::Addr(a)),
+        End::OutOfSteps => 0,
+        End::TooDeep => 0,
+        End::Stuck(_) => 0,
+    }
+}
+
+// An answer as numbers.
+pub fn numbers_of(a: Ran) -> Told
+    ensures { λ r. ⌜ r ≡ toldOf a ⌝ }
+{
+    match a {
+        Ran::Refused(f) => {
+            let n = refusal_answer(f);
+            Told {
+                number: n.number,
+                place: n.place,
+                count: 0,
+                value: 0,
+            }
+        },
+        Ran::Ended(e, k) => {
+            let n = end_answer(e);
+            let w = end_word(e);
+            Told {
+                number: n.number,
+                place: n.place,
+                count: k,
+                value: w,
+            }
+        },
     }
 }
