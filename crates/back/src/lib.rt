@@ -20,19 +20,12 @@ use objects::Spot;
 use redexes::Choice;
 use redexes::Outcome;
 use redexes::Thrown;
+use room::FRAME_WORDS;
+use room::FRAMES;
 use room::Focus;
 use room::Go;
-
-// Where the first frame begins, and the words of one.
-const FRAMES: usize = 80;
-
-const FRAME_WORDS: usize = 16;
-
-// A frame's tag is this much more where the second operand is active.
-const SECOND: u64 = 16;
-
-// The tag of the Seq that a loop becomes.
-const LOOP: u64 = 29;
+use room::LOOP;
+use room::SECOND;
 
 // The turn that a redex's outcome makes at place p.
 fn finish(r: Outcome, p: usize, i: usize) -> Go
@@ -178,7 +171,7 @@ fn back_throw(p: usize, i: usize, w: u64) -> Go
 {
     match redexes::throw_redex(w) {
         Thrown::Address(a) => Go::Moved(Focus::Thrown(a, p), i),
-        Thrown::Null => Go::Stepped(Focus::Thrown(redexes::NULL_POINTER, p), i),
+        Thrown::Null => Go::Stepped(Focus::Thrown(heap::NULL_POINTER, p), i),
         Thrown::Fails => Go::Stuck(p),
     }
 }

@@ -11,18 +11,12 @@ ghost use Rattle.room.specs.Turn.{HeapOk, Inv, Turned};
 ghost use Rattle.calls.specs.Blocks.{Callable, Pushed};
 use image::Layout;
 use redexes::Target;
+use room::CLASS;
+use room::FRAME_WORDS;
+use room::FRAMES;
 use room::Focus;
 use room::Go;
-
-// Where the first frame begins, the words of one, and which of a Call's is its receiver's.
-const FRAMES: usize = 80;
-
-const FRAME_WORDS: usize = 16;
-
-const OPERANDS: usize = 5;
-
-// The type word of class 0.
-const CLASS: u64 = 4;
+use room::OPERANDS;
 
 // Pushes the blocks of a call of method j, from frame i on: the receiver's, and one for each of the y arguments. The first of them
 // takes the Call's own frame, but not the words of the operands.

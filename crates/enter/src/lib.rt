@@ -14,31 +14,18 @@ ghost use Rattle.room.specs.RoomLaws.{push, push3, pushBlock};
 ghost use Rattle.room.specs.Turn.{HeapOk, Inv, Turned};
 ghost use Rattle.room.specs.Armed.{armed, armedSeq};
 ghost use Rattle.enter.specs.Turns.{Turns, Within, Past, restOf};
+use heap::OUT_OF_MEMORY;
 use image::Layout;
 use order::Found;
+use room::ADDRESS;
+use room::BLOCK;
+use room::FRAME_WORDS;
+use room::FRAMES;
 use room::Focus;
 use room::Go;
-
-// A value's tag stands above the 32 bits of its payload. An address has tag 4.
-const ADDRESS: u64 = 17179869184;
-
-// The address of the exception that New throws when no slot is free.
-const OUT_OF_MEMORY: usize = 2;
-
-// Where New's search goes on.
-const SEARCH: usize = 64;
-
-// Where the first frame begins, and the words of one.
-const FRAMES: usize = 80;
-
-const FRAME_WORDS: usize = 16;
-
-// Tags of frames.
-const BLOCK: u64 = 10;
-
-const SEQ: u64 = 11;
-
-const LOOP: u64 = 29;
+use room::LOOP;
+use room::SEARCH;
+use room::SEQ;
 
 // Kinds of nodes.
 const LITERAL: u32 = 2;

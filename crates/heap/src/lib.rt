@@ -35,6 +35,13 @@ pub const FEWEST_SLOTS: usize = 3;
 
 const MOST_SLOTS: usize = 4096;
 
+// The slots of the system's objects: the exceptions that a step may throw.
+pub const NULL_POINTER: usize = 0;
+
+pub const CLASS_CAST: usize = 1;
+
+pub const OUT_OF_MEMORY: usize = 2;
+
 // Words of a class's row in the table of types: as many as a class may have fields.
 pub const ROW_WORDS: usize = 15;
 

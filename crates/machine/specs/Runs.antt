@@ -117,8 +117,11 @@ module _ (ws : List ℕ) (good : (n : ℕ) → n < nodeCount ws → nodeHolds ws
           size = s .size ∙ r .size;
           heap-size = b ∙ r .heap-size;
           rest =
-              rw (← z, ← run-goes (program ws) D (heapOf (program ws) hs) (outside ws room l) (whole ws room l f) (limit - suc count) count
-              (heapOf (program ws) hs') (outside ws room' l') (whole ws room' l' f') (s .goes)) (rw (z, ← e) (r .rest));
+              rw (
+                ← z,
+                ← run-goes (program ws) D (heapOf (program ws) hs) (outside ws room l) (whole ws room l f) (limit - suc count) count
+                    (heapOf (program ws) hs') (outside ws room' l') (whole ws room' l' f') (s .goes),
+              ) (rw (z, ← e) (r .rest));
         }
 
     -- the ends; the heap's words are those of the heap that the run ends with

@@ -12,18 +12,14 @@ ghost use Rattle.room.specs.Room.{searchWord};
 ghost use Rattle.room.specs.Turn.{HeapOk, whole, outside, Inv, Turned};
 ghost use Rattle.machine.specs.Finished.{Finishes, endOf, sunkAt};
 use image::Layout;
+use room::CALL;
+use room::FRAME_WORDS;
+use room::FRAMES;
 use room::Focus;
 use room::Go;
 use rules::End;
 use words::Decoded;
 use words::Value;
-
-// Where the first frame begins, the words of one, and the tag of a Call's.
-const FRAMES: usize = 80;
-
-const FRAME_WORDS: usize = 16;
-
-const CALL: u64 = 9;
 
 // How a run ended, and how many steps it took.
 pub struct Finished {
@@ -119,7 +115,18 @@ pub fn run_on(
     let mut level = 0;
     let mut count = 0;
     loop {
-        match turn(ws, lay, counts, types, heap, room, depth, count < limit, level, focus) {
+        match turn(
+            ws,
+            lay,
+            counts,
+            types,
+            heap,
+            room,
+            depth,
+            count < limit,
+            level,
+            focus,
+        ) {
             Go::Moved(f, l) => {
                 focus = f;
                 level = l;

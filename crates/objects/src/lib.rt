@@ -12,21 +12,17 @@ ghost use Rattle.laws.specs.Values.{IsValue};
 ghost use Rattle.heap.specs.Rows.{Sizes, Rows};
 ghost use Rattle.objects.specs.Spots.{Spotted};
 ghost use Rattle.objects.specs.Made.{Made};
+use heap::NULL_POINTER;
 use heap::ROW_WORDS;
 use heap::SLOT_WORDS;
 use image::Layout;
 use order::Found;
-
-// A value's tag stands above the 32 bits of its payload.
-const TAG: u64 = 4294967296;
+use words::TAG;
 
 // The tags of Null and of an address.
 const NULL: u64 = 1;
 
 const ADDRESS: u64 = 4;
-
-// The address of the exception that a field of Null throws.
-const NULL_POINTER: usize = 0;
 
 // Where a field stands: the index of its word in the heap. Or the address of the exception that is thrown instead, or that no
 // rule fits.

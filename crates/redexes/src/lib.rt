@@ -17,15 +17,10 @@ ghost use Rattle.laws.specs.Heap.{Words};
 ghost use Rattle.redexes.specs.Outcomes.{redexOf, Sound, Chooses, Throws, Calls, Tries};
 use classes::Members;
 use classes::Seen;
+use heap::CLASS_CAST;
+use heap::NULL_POINTER;
 use image::Layout;
-
-// A value's tag stands above the 32 bits of its payload.
-const TAG: u64 = 4294967296;
-
-// The addresses of the system exceptions that a decision may throw.
-pub const NULL_POINTER: usize = 0;
-
-pub const CLASS_CAST: usize = 1;
+use words::TAG;
 
 // What a redex comes to: a value's word, a system exception's address, or no rule.
 pub enum Outcome {

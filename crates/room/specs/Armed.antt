@@ -149,8 +149,7 @@ module _ (ws room : List ℕ) where
       let a = eqb (tag ws room j) 10 in
       let b = eqb (word ws room j 2) x in
       let c = eqb (getD room x 0) 0 in
-      let q = and-left (a && b) c h in
-      (
+      let q = and-left (a && b) c h in (
         j,
         refl,
         record { tagged = eqb-true _ _ (and-left a b q); variable = eqb-true _ _ (and-right a b q); unset = eqb-true _ _ (and-right (a && b) c h) },
@@ -259,8 +258,13 @@ module _ (ws room : List ℕ) (j x w : ℕ) (t : Takes ws room j x) (local : x <
       : outers (frames ws (set room x (suc w)) (suc j)) (storeOf (set room x (suc w))) ≡ outers (frames ws room (suc j)) (storeOf room)
   unfolding frames outers outer
   taken-outers =
-      rw (stored, set-frames ws room x (suc w) (suc j) (omega arith), frame-block ws room j (t .tagged), t .variable,
-      upd-twice (storeOf room) x (some (valueAt w)) (held (word ws room j 4)))
+      rw (
+        stored,
+        set-frames ws room x (suc w) (suc j) (omega arith),
+        frame-block ws room j (t .tagged),
+        t .variable,
+        upd-twice (storeOf room) x (some (valueAt w)) (held (word ws room j 4)),
+      )
 
 module _ (ws : List ℕ) (D : ℕ) (room : List ℕ) (l j : ℕ) (f : Focus) (inv : Inv ws D room l f) where
   pub takes-up : (x w q r k m : ℕ) → Takes ws room j x → suc j ≤ l → x < variables → IsValue w → m < nodeCount ws

@@ -371,8 +371,10 @@ module _ (ws : List ℕ) (good : (n : ℕ) → n < nodeCount ws → nodeHolds ws
           heap = rw (k .same searchWord (omega arith)) heap;
           goes =
               rw (frames-more ws k, kept-store k, g, q, b .is)
-              (rw (plugs-in (seqF p (loaded ws p)) (frames ws room i) (storeOf room) (operandOf ws p 0) (seq p (operandOf ws p 0) (loaded ws p)) refl refl,
-              outers-in (seqF p (loaded ws p)) (frames ws room i) (storeOf room) refl)
+              (rw (
+                plugs-in (seqF p (loaded ws p)) (frames ws room i) (storeOf room) (operandOf ws p 0) (seq p (operandOf ws p 0) (loaded ws p)) refl refl,
+                outers-in (seqF p (loaded ws p)) (frames ws room i) (storeOf room) refl,
+              )
               (goes-back (program ws) D (heapOf (program ws) hs) (iteF p (seq p (operandOf ws p 0) (loaded ws p)) (bare Value.Unit))
               (frames ws room i) (storeOf room) (bare (valueAt w)) (seq p (operandOf ws p 0) (loaded ws p)) (heapOf (program ws) hs)
               (storeOf room) p (b .plain) low (b .found ∙ e)));
@@ -478,4 +480,3 @@ module _ (ws : List ℕ) (good : (n : ℕ) → n < nodeCount ws → nodeHolds ws
   set-moves t =
       let n = is-first 8 refl t in
       second-any 8 t refl refl n (rw (n .1)) (rw (second-tag 8 t, second-place 8 t, second-value 8 t, t)) (rw t) (rw (second-tag 8 t))
-

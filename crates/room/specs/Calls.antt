@@ -392,8 +392,12 @@ module _ (ws : List ℕ) (good : (n : ℕ) → n < nodeCount ws → nodeHolds ws
         size = k .size ∙ b .size;
         heap = rw (k .search, b .same searchWord (omega arith)) h;
         goes =
-            rw (pushing-end ws base i (word ws room i 1) (suc (nodeWord ws (word ws room i 1) 3)) types (loaded ws m) new c k l, k .around,
-            kept-frames ws b, kept-store b)
+            rw (
+              pushing-end ws base i (word ws room i 1) (suc (nodeWord ws (word ws room i 1) 3)) types (loaded ws m) new c k l,
+              k .around,
+              kept-frames ws b,
+              kept-store b,
+            )
             (goes-called e);
       }
     where

@@ -62,7 +62,7 @@ module _ (ws : List ℕ) (n : ℕ) (h : nodeHolds ws n ≡ true) where
   cast-class e = let p = rw e at (names ws n h) in ltb-true (nodeWord ws n 2) (classCount ws) (and-left (isClass (classCount ws) (nodeWord ws n 2)) (isUnused (nodeWord ws n 3)) p)
 
   pub literal-tag : nodeWord ws n 0 ≡ 2 → nodeWord ws n 2 < writtenTags
-  unfolding kindOf namesHold 
+  unfolding kindOf namesHold
   literal-tag e = let p = rw e at (names ws n h) in ltb-true (nodeWord ws n 2) writtenTags (and-left (ltb (nodeWord ws n 2) writtenTags) (isValue (nodeWord ws n 2) (nodeWord ws n 3)) p)
 
   pub var-local : nodeWord ws n 0 ≡ 3 → nodeWord ws n 2 < variables
@@ -440,8 +440,10 @@ module _ (ws : List ℕ) (good : (n : ℕ) → n < nodeCount ws → nodeHolds ws
           same = block-plugs ws room l n x y 0 m f (operandOf ws n 0) ∙ rw c;
           around = block-outers ws room l n x y 0 m f;
           falls =
-              rw (block-tag ws room l n x y 0 m f,
-              pending-same ws room (pushBlock room l n x y 0) l
-              (λ j a b. block-below ws room l n x y 0 m f j b (λ e. let z : j ≡ x = e in omega arith)))
+              rw (
+                block-tag ws room l n x y 0 m f,
+                pending-same ws room (pushBlock room l n x y 0) l
+                    (λ j a b. block-below ws room l n x y 0 m f j b (λ e. let z : j ≡ x = e in omega arith)),
+              )
               (omega (arith, sizes ws good n 0 (inv .here) one));
         }

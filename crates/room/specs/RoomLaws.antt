@@ -254,8 +254,16 @@ module _ (ws room : List ℕ) (l p x t w : ℕ) (local : x < variables) (h : fra
   block-frame : frame ws (framed room l p x t) l ≡ blockF p x (typeOf t) (storeOf room x)
   unfolding frame frameOf shapeOf
   block-frame =
-      rw (store-at room x local, framed-tag, framed-low 1 (omega arith), framed-low 2 (omega arith), framed-type, framed-old,
-      push3-place ws room l 10 p x (omega arith), push3-third ws room l 10 p x (omega arith))
+      rw (
+        store-at room x local,
+        framed-tag,
+        framed-low 1 (omega arith),
+        framed-low 2 (omega arith),
+        framed-type,
+        framed-old,
+        push3-place ws room l 10 p x (omega arith),
+        push3-third ws room l 10 p x (omega arith),
+      )
 
   pub block-frames : frames ws (pushBlock room l p x t w) (suc l) ≡ blockF p x (typeOf t) (storeOf room x) ∷ frames ws room l
   unfolding pushBlock

@@ -235,8 +235,7 @@ assign-plain [] s r x k v u = tt
 assign-plain (F ∷ []) s r x k v u = (plug-plain F s (assign r x (val k v)) (λ y. refl), tt)
 assign-plain (F ∷ G ∷ Fs) s r x k v u =
     let e = assign r x (val k v) in
-    let d = plug block F s e in
-    (
+    let d = plug block F s e in (
       plug-plain F s e (λ y. refl),
       (
         u,

@@ -247,8 +247,13 @@ module _ (ws : List ℕ) (good : (n : ℕ) → n < nodeCount ws → nodeHolds ws
               rw (block-below ws room i p x (4 + c) (suc u) m f searchWord (omega arith) (λ z. let y : searchWord ≡ x = z in omega arith))
               heap;
           goes =
-              rw (block-plugs ws room i p x (4 + c) (suc u) m f (operandOf ws p 0), block-outers ws room i p x (4 + c) (suc u) m f,
-              class-word c, v, blocked-some p x (Class c) (Addr a) (operandOf ws p 0))
+              rw (
+                block-plugs ws room i p x (4 + c) (suc u) m f (operandOf ws p 0),
+                block-outers ws room i p x (4 + c) (suc u) m f,
+                class-word c,
+                v,
+                blocked-some p x (Class c) (Addr a) (operandOf ws p 0),
+              )
               (goes-back (program ws) D (heapOf (program ws) hs) (frame ws room i) (frames ws room i) (storeOf room) (thrown-at q a)
               (block p x (Class c) (some (Addr a)) (operandOf ws p 0)) (heapOf (program ws) hs) (storeOf room) p still low
               (finds-thrown ∙ tried _ e));

@@ -206,12 +206,14 @@ module _ (ws hs is : List ℕ) (room depth : ℕ) (free : Free ws hs is room dep
       record {
         words = words ws hs (held (fieldsRule ws) few) long (held (heapWordRule ws hs) (free .heap-words));
         size =
-            omega (arith,
-            eqb-true (length hs % slotWords) 0
-            (and-left (eqb (length hs % slotWords) 0) (leb fewestSlots (length hs / slotWords))
-            (and-left (eqb (length hs % slotWords) 0 && leb fewestSlots (length hs / slotWords)) (leb (length hs / slotWords) mostSlots) long)),
-            leb-true (length hs / slotWords) mostSlots
-            (and-right (eqb (length hs % slotWords) 0 && leb fewestSlots (length hs / slotWords)) (leb (length hs / slotWords) mostSlots) long));
+            omega (
+              arith,
+              eqb-true (length hs % slotWords) 0
+                  (and-left (eqb (length hs % slotWords) 0) (leb fewestSlots (length hs / slotWords))
+                  (and-left (eqb (length hs % slotWords) 0 && leb fewestSlots (length hs / slotWords)) (leb (length hs / slotWords) mostSlots) long)),
+              leb-true (length hs / slotWords) mostSlots
+                  (and-right (eqb (length hs % slotWords) 0 && leb fewestSlots (length hs / slotWords)) (leb (length hs / slotWords) mostSlots) long),
+            );
         low = omega arith;
         taken = λ a h. absurd (omega arith);
       }

@@ -171,7 +171,17 @@ fn run_laid(
     match judge(ws, l, &counts, heap, inputs, room.len(), depth) {
         Judged::Against(f) => Ran::Refused(f),
         Judged::Clear => {
-            let r = run_clear(ws, l, &counts, &types, heap, inputs, room, steps, depth as usize);
+            let r = run_clear(
+                ws,
+                l,
+                &counts,
+                &types,
+                heap,
+                inputs,
+                room,
+                steps,
+                depth as usize,
+            );
             let end = r.end;
             let count = r.count;
             Ran::Ended(end, count)

@@ -9,18 +9,12 @@ ghost use Rattle.room.specs.Room.{searchWord, word, tag};
 ghost use Rattle.room.specs.Turn.{HeapOk, Inv, Turned};
 use image::Layout;
 use redexes::Catch;
+use room::ADDRESS;
+use room::CLASS;
+use room::FRAME_WORDS;
+use room::FRAMES;
 use room::Focus;
 use room::Go;
-
-// Where the first frame begins, and the words of one.
-const FRAMES: usize = 80;
-
-const FRAME_WORDS: usize = 16;
-
-// The type word of class 0, and the word of address 0.
-const CLASS: u64 = 4;
-
-const ADDRESS: u64 = 17179869184;
 
 // It comes to a Try, at node p.
 fn unwind_try(

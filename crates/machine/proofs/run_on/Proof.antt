@@ -1,23 +1,16 @@
-use Rattle.machine.specs.Runs.{Running, left, started, went, took, went-left, took-left, full, halted, sunk, could, sunk-answer, over-answer}
-use borrow.Author.Tests.{le-ltb, ltb-false}
-use Rattle.machine.specs.Runs.{Running, left, started, went, took, went-left, took-left, full, halted, sunk, sunk-after, could, could-sink, returned, raised}
-use Rattle.room.specs.Turn.{whole, outside}
+-- `machine::run_on` meets its contract.
+use Rattle.machine.proofs.run_on.Statement.{statement}
+use Rattle.machine.specs.Runs.{could, full, halted, left, over-answer, Running, started, sunk, sunk-answer, took, took-left, went, went-left}
+use Rattle.room.specs.Turn.{outside, whole}
 use Rattle.room.specs.declared.Focus.the-variants.{Node}
-use Rattle.rules.specs.Run.{run}
 use Rattle.rules.specs.Heap.{heapOf}
 use Rattle.rules.specs.Program.{program}
-use borrow.Author.Tests.{le-ltb}
-use native.Mathlib.Omega.{arith}
-use lib.ListN.{length}
-use mathlib.Core.Path.{_≡_, refl, sym, _∙_}
+use Rattle.rules.specs.Run.{run}
 use borrow.Author.Needs.{needs}
-use Rattle.machine.proofs.run_on.Statement.{statement}
+use borrow.Author.Tests.{le-ltb, ltb-false}
+use mathlib.Core.Path.{_∙_, refl}
+use native.Mathlib.Omega.{arith}
 use Rattle.machine.proofs.run_on.Tie as tie
-use Rattle.machine.proofs.run_on.Reads as reads
-use Rattle.machine.proofs.run_on.Lts as lts
-use Rattle.machine.proofs.final_end.Reads as final-end-reads
-use Rattle.machine.proofs.sunk.Reads as sunk-reads
-use Rattle.machine.proofs.turn.Reads as turn-reads
 
 abbrev Inv-loop : tie.InvT-loop
 Inv-loop ws lay counts types heap₀ room₀ depth limit n focus₀ level₀ count₀ heap room focus level count = Running ws depth limit (run depth (program ws) limit 0 (heapOf (program ws) heap₀) (outside ws room₀ 0) (whole ws room₀ 0 (Node n))) heap₀ room₀ heap room level focus count
@@ -25,139 +18,105 @@ Inv-loop ws lay counts types heap₀ room₀ depth limit n focus₀ level₀ cou
 abbrev μ-loop : tie.MeasureT-loop
 μ-loop ws lay counts types heap₀ room₀ depth limit n focus₀ level₀ count₀ heap room focus level count = left ws depth limit count room level focus
 
--- src/lib.rt:80:5
 loop-holds : tie.Need-loop-holds Inv-loop μ-loop
 loop-holds c = started _ (c .before .before .before .before .before .pre .0 .nodes) _ _ _ _ _ (c .before .before .before .before .before .pre .2) (c .before .before .before .before .before .pre .3)
 
--- src/lib.rt:81:15
 turn-requires : tie.Need-turn-requires Inv-loop μ-loop
 turn-requires c κs = (c .before .before .before .before .before .before .before .before .pre .0, c .before .before .before .before .before .before .before .before .pre .1, c .before .before .loop .inv .inv, c .before .before .loop .inv .heap)
 
--- src/lib.rt:82:23
 enum-known-f : tie.Need-enum-known-f Inv-loop μ-loop
 enum-known-f c = search needs
 
--- src/lib.rt:80:5
 loop-less : tie.Need-loop-less Inv-loop μ-loop
 loop-less c = let m = rw (c .before .f .given .1) at (c .before .before .before .before .before .before .before .turn .ensures) in went-left _ (c .before .before .before .before .before .before .before .before .before .before .before .before .before .before .before .before .pre .0 .nodes) _ _ _ _ _ _ _ _ _ (m .0)
 
--- src/lib.rt:80:5
 loop-again : tie.Need-loop-again Inv-loop μ-loop
 loop-again c = let m = rw (c .before .f .given .1) at (c .before .before .before .before .before .before .before .turn .ensures) in went _ (c .before .before .before .before .before .before .before .before .before .before .before .before .before .before .before .before .pre .0 .nodes) _ (c .before .before .before .before .before .before .before .before .before .before .loop .inv) _ _ _ _ (m .0) (m .1)
 
--- src/lib.rt:86:25
 enum-known-f-2 : tie.Need-enum-known-f-2 Inv-loop μ-loop
 enum-known-f-2 c = search needs
 
--- src/lib.rt:88:21
 same-length : tie.Need-same-length Inv-loop μ-loop
 same-length c = search needs
 
--- src/lib.rt:88:21
 same-length-2 : tie.Need-same-length-2 Inv-loop μ-loop
 same-length-2 c = search needs
 
--- src/lib.rt:88:21
 returns : tie.Need-returns Inv-loop μ-loop
 returns c = let m = rw (c .before .before .f2 .given .1) at (c .before .before .before .before .before .before .before .before .turn .ensures) in (full _ (c .before .before .before .before .before .before .before .before .before .before .before .before .before .before .before .before .before .pre .0 .nodes) _ (c .before .before .before .before .before .before .before .before .before .before .before .loop .inv) (could _ (c .before .before .before .before .before .before .before .before .before .before .before .before .before .before .before .before .before .pre .0 .nodes) _ (m .0)) (c .if1 .taken) _ _ refl refl (m .1 (le-ltb _ _ (c .if1 .taken))), c .before .before .before .before .before .room .given ∙ c .before .before .before .before .before .before .before .before .before .before .before .loop .inv .size)
 
--- src/lib.rt:93:17
 add-count : tie.Need-add-count Inv-loop μ-loop
 add-count c = omega (arith, c .if1 .left)
 
--- src/lib.rt:80:5
 loop-less-2 : tie.Need-loop-less-2 Inv-loop μ-loop
 loop-less-2 c = let m = rw (c .before .before .f2 .given .1) at (c .before .before .before .before .before .before .before .before .turn .ensures) in took-left _ (c .before .before .before .before .before .before .before .before .before .before .before .before .before .before .before .before .before .pre .0 .nodes) _ _ _ _ _ _ _ _ _ (omega (arith, c .if1 .left)) (m .0 .inv)
 
--- src/lib.rt:80:5
 loop-again-2 : tie.Need-loop-again-2 Inv-loop μ-loop
 loop-again-2 c = let m = rw (c .before .before .f2 .given .1) at (c .before .before .before .before .before .before .before .before .turn .ensures) in took _ (c .before .before .before .before .before .before .before .before .before .before .before .before .before .before .before .before .before .pre .0 .nodes) _ (c .before .before .before .before .before .before .before .before .before .before .before .loop .inv) _ _ _ _ (m .0) (omega (arith, c .if1 .left)) (c .before .before .before .before .before .before .before .heap .given)
 
--- src/lib.rt:99:26
 enum-told : tie.Need-enum-told Inv-loop μ-loop
 enum-told c = search needs
 
--- src/lib.rt:98:17
 same-length-3 : tie.Need-same-length-3 Inv-loop μ-loop
 same-length-3 c = search needs
 
--- src/lib.rt:98:17
 same-length-4 : tie.Need-same-length-4 Inv-loop μ-loop
 same-length-4 c = search needs
 
--- src/lib.rt:98:17
 returns-2 : tie.Need-returns-2 Inv-loop μ-loop
 returns-2 c = let m = rw (c .enum-told .given .1) at (c .before .before .before .before .before .before .turn .ensures) in (full _ (c .before .before .before .before .before .before .before .before .before .before .before .before .before .before .before .pre .0 .nodes) _ (c .before .before .before .before .before .before .before .before .before .loop .inv) (m .0) (ltb-false _ _ (m .1)) _ _ refl refl (m .2), c .before .before .before .room .given ∙ c .before .before .before .before .before .before .before .before .before .loop .inv .size)
 
--- src/lib.rt:104:17
 enum-told-2 : tie.Need-enum-told-2 Inv-loop μ-loop
 enum-told-2 c = search needs
 
--- src/lib.rt:104:17
 sunk-requires : tie.Need-sunk-requires Inv-loop μ-loop
 sunk-requires c κs = search needs
 
--- src/lib.rt:104:17
 same-length-5 : tie.Need-same-length-5 Inv-loop μ-loop
 same-length-5 c = search needs
 
--- src/lib.rt:104:17
 same-length-6 : tie.Need-same-length-6 Inv-loop μ-loop
 same-length-6 c = search needs
 
--- src/lib.rt:104:17
 returns-3 : tie.Need-returns-3 Inv-loop μ-loop
 returns-3 c = let m = rw (c .before .enum-told2 .given .1) at (c .before .before .before .before .before .before .before .turn .ensures) in (sunk-answer _ (c .before .before .before .before .before .before .before .before .before .before .before .before .before .before .before .before .pre .0 .nodes) _ (c .before .before .before .before .before .before .before .before .before .before .loop .inv) (m .0) _ _ (c .sunk .ensures) (m .1), c .before .before .before .before .room .given ∙ c .before .before .before .before .before .before .before .before .before .before .loop .inv .size)
 
--- src/lib.rt:106:23
 enum-known-q : tie.Need-enum-known-q Inv-loop μ-loop
 enum-known-q c = search needs
 
--- src/lib.rt:107:17
 same-length-7 : tie.Need-same-length-7 Inv-loop μ-loop
 same-length-7 c = search needs
 
--- src/lib.rt:107:17
 same-length-8 : tie.Need-same-length-8 Inv-loop μ-loop
 same-length-8 c = search needs
 
--- src/lib.rt:107:17
 returns-4 : tie.Need-returns-4 Inv-loop μ-loop
 returns-4 c = let m = rw (c .before .q .given .1) at (c .before .before .before .before .before .before .before .turn .ensures) in (halted _ (c .before .before .before .before .before .before .before .before .before .before .before .before .before .before .before .before .pre .0 .nodes) _ (c .before .before .before .before .before .before .before .before .before .before .loop .inv) _ (m .0) _ _ refl refl (m .1), c .before .before .before .before .room .given ∙ c .before .before .before .before .before .before .before .before .before .before .loop .inv .size)
 
--- src/lib.rt:114:26
 enum-told-3 : tie.Need-enum-told-3 Inv-loop μ-loop
 enum-told-3 c = search needs
 
--- src/lib.rt:113:17
 same-length-9 : tie.Need-same-length-9 Inv-loop μ-loop
 same-length-9 c = search needs
 
--- src/lib.rt:113:17
 same-length-10 : tie.Need-same-length-10 Inv-loop μ-loop
 same-length-10 c = search needs
 
--- src/lib.rt:113:17
 returns-5 : tie.Need-returns-5 Inv-loop μ-loop
 returns-5 c = let m = rw (c .enum-told3 .given .1) at (c .before .before .before .before .before .before .turn .ensures) in (sunk _ (c .before .before .before .before .before .before .before .before .before .before .before .before .before .before .before .pre .0 .nodes) _ (c .before .before .before .before .before .before .before .before .before .loop .inv) (m .0) _ _ refl refl (m .1), c .before .before .before .room .given ∙ c .before .before .before .before .before .before .before .before .before .loop .inv .size)
 
--- src/lib.rt:120:26
 enum-told-4 : tie.Need-enum-told-4 Inv-loop μ-loop
 enum-told-4 c = search needs
 
--- src/lib.rt:120:26
 final-end-requires : tie.Need-final-end-requires Inv-loop μ-loop
 final-end-requires c κs = search needs
 
--- src/lib.rt:119:17
 same-length-11 : tie.Need-same-length-11 Inv-loop μ-loop
 same-length-11 c = search needs
 
--- src/lib.rt:119:17
 same-length-12 : tie.Need-same-length-12 Inv-loop μ-loop
 same-length-12 c = search needs
 
--- src/lib.rt:119:17
 returns-6 : tie.Need-returns-6 Inv-loop μ-loop
 returns-6 c = let m = rw (c .before .enum-told4 .given .1) at (c .before .before .before .before .before .before .before .turn .ensures) in (over-answer _ (c .before .before .before .before .before .before .before .before .before .before .before .before .before .before .before .before .pre .0 .nodes) _ _ (c .before .before .before .before .before .before .before .before .before .before .loop .inv) (m .0) _ _ (c .final-end .ensures) refl (m .1), c .before .before .before .before .room .given ∙ c .before .before .before .before .before .before .before .before .before .before .loop .inv .size)
 

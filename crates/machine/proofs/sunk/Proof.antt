@@ -1,21 +1,17 @@
-use Rattle.machine.specs.Finished.{sunkAt}
-use borrow.Author.Tests.{lt-ltb, le-ltb}
-use borrow.Author.Needs.{needs}
+-- `machine::sunk` meets its contract.
 use Rattle.machine.proofs.sunk.Statement.{statement}
+use Rattle.machine.specs.Finished.{sunkAt}
+use borrow.Author.Needs.{needs}
+use borrow.Author.Tests.{le-ltb, lt-ltb}
 use Rattle.machine.proofs.sunk.Tie as tie
-use Rattle.machine.proofs.sunk.Reads as reads
-use Rattle.machine.proofs.sunk.Lts as lts
 
--- src/lib.rt:135:20
 add-t6 : tie.Need-add-t6
 add-t6 c = search needs
 
--- src/lib.rt:129:1
 returns : tie.Need-returns
 unfolding sunkAt
 returns c = rw (lt-ltb _ _ (c .if1 .taken))
 
--- src/lib.rt:129:1
 returns-2 : tie.Need-returns-2
 unfolding sunkAt
 returns-2 c = rw (le-ltb _ _ (c .if1 .left))

@@ -1,55 +1,41 @@
-use Rattle.run.specs.Answers.{refusalNumbers, endWord, toldOf}
-use Rattle.run.specs.declared.Told.{Told}
+-- `run::end_answer` meets its contract.
 use Rattle.rules.specs.Numbers.{endNumbers}
-use Rattle.order.specs.declared.Answer.{Answer}
-use mathlib.Core.Path.{_≡_, refl, sym, _∙_, ap}
-use borrow.Author.Needs.{needs}
 use Rattle.run.proofs.end_answer.Statement.{statement}
+use borrow.Author.Needs.{needs}
+use mathlib.Core.Path.{ap, sym}
 use Rattle.run.proofs.end_answer.Tie as tie
-use Rattle.run.proofs.end_answer.Reads as reads
-use Rattle.run.proofs.end_answer.Lts as lts
 
--- src/lib.rt:247:29
 enum-told : tie.Need-enum-told
 enum-told c = search needs
 
--- src/lib.rt:251:26
 enum-told-2 : tie.Need-enum-told-2
 enum-told-2 c = search needs
 
--- src/lib.rt:255:28
 enum-told-3 : tie.Need-enum-told-3
 enum-told-3 c = search needs
 
--- src/lib.rt:259:25
 enum-told-4 : tie.Need-enum-told-4
 enum-told-4 c = search needs
 
--- src/lib.rt:263:20
 enum-known-e : tie.Need-enum-known-e
 enum-known-e c = search needs
 
--- src/lib.rt:243:1
 returns : tie.Need-returns
 unfolding endNumbers
 returns c = sym (ap endNumbers (c .enum-told .given .1))
 
--- src/lib.rt:243:1
 returns-2 : tie.Need-returns-2
 unfolding endNumbers
 returns-2 c = sym (ap endNumbers (c .enum-told2 .given .1))
 
--- src/lib.rt:243:1
 returns-3 : tie.Need-returns-3
 unfolding endNumbers
 returns-3 c = sym (ap endNumbers (c .enum-told3 .given .1))
 
--- src/lib.rt:243:1
 returns-4 : tie.Need-returns-4
 unfolding endNumbers
 returns-4 c = sym (ap endNumbers (c .enum-told4 .given .1))
 
--- src/lib.rt:243:1
 returns-5 : tie.Need-returns-5
 unfolding endNumbers
 returns-5 c = sym (ap endNumbers (c .before .e .given .1))

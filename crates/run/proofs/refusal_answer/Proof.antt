@@ -1,72 +1,52 @@
-use Rattle.run.specs.Answers.{refusalNumbers, endWord, toldOf}
-use Rattle.run.specs.declared.Told.{Told}
-use Rattle.rules.specs.Numbers.{endNumbers}
-use Rattle.order.specs.declared.Answer.{Answer}
-use mathlib.Core.Path.{_≡_, refl, sym, _∙_, ap}
-use borrow.Author.Needs.{needs}
+-- `run::refusal_answer` meets its contract.
 use Rattle.run.proofs.refusal_answer.Statement.{statement}
+use Rattle.run.specs.Answers.{refusalNumbers}
+use borrow.Author.Needs.{needs}
+use mathlib.Core.Path.{ap, sym}
 use Rattle.run.proofs.refusal_answer.Tie as tie
-use Rattle.run.proofs.refusal_answer.Reads as reads
-use Rattle.run.proofs.refusal_answer.Lts as lts
-use Rattle.image.proofs.breach_answer.Reads as breach-answer-reads
 
--- src/lib.rt:214:25
 enum-known-f : tie.Need-enum-known-f
 enum-known-f c = search needs
 
--- src/lib.rt:214:31
 breach-answer-requires : tie.Need-breach-answer-requires
 breach-answer-requires c κs = search needs
 
--- src/lib.rt:215:25
 enum-known-f-2 : tie.Need-enum-known-f-2
 enum-known-f-2 c = search needs
 
--- src/lib.rt:219:32
 enum-told : tie.Need-enum-told
 enum-told c = search needs
 
--- src/lib.rt:223:27
 enum-known-f-3 : tie.Need-enum-known-f-3
 enum-known-f-3 c = search needs
 
--- src/lib.rt:227:24
 enum-known-f-4 : tie.Need-enum-known-f-4
 enum-known-f-4 c = search needs
 
--- src/lib.rt:231:27
 enum-told-2 : tie.Need-enum-told-2
 enum-told-2 c = search needs
 
--- src/lib.rt:235:26
 enum-told-3 : tie.Need-enum-told-3
 enum-told-3 c = search needs
 
--- src/lib.rt:210:1
 returns : tie.Need-returns
 returns c = search needs
 
--- src/lib.rt:210:1
 returns-2 : tie.Need-returns-2
 returns-2 c = sym (ap refusalNumbers (c .before .f2 .given .1))
 
--- src/lib.rt:210:1
 returns-3 : tie.Need-returns-3
 returns-3 c = sym (ap refusalNumbers (c .enum-told .given .1))
 
--- src/lib.rt:210:1
 returns-4 : tie.Need-returns-4
 returns-4 c = sym (ap refusalNumbers (c .before .f3 .given .1))
 
--- src/lib.rt:210:1
 returns-5 : tie.Need-returns-5
 returns-5 c = sym (ap refusalNumbers (c .before .f4 .given .1))
 
--- src/lib.rt:210:1
 returns-6 : tie.Need-returns-6
 returns-6 c = sym (ap refusalNumbers (c .enum-told2 .given .1))
 
--- src/lib.rt:210:1
 returns-7 : tie.Need-returns-7
 returns-7 c = sym (ap refusalNumbers (c .enum-told3 .given .1))
 

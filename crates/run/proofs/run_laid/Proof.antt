@@ -1,89 +1,64 @@
-use Rattle.run.specs.Laws.{fields-refused, lent-asked}
-use native.Mathlib.Omega.{arith}
-use lib.ListN.{length, replicate}
-use mathlib.Core.Path.{_≡_, refl, sym, _∙_, ap}
-use borrow.Author.Needs.{needs}
+-- `run::run_laid` meets its contract.
 use Rattle.run.proofs.run_laid.Statement.{statement}
+use Rattle.run.specs.Laws.{fields-refused, lent-asked}
+use borrow.Author.Needs.{needs}
+use mathlib.Core.Path.{_∙_, refl, sym}
 use Rattle.run.proofs.run_laid.Tie as tie
-use Rattle.run.proofs.run_laid.Reads as reads
-use Rattle.run.proofs.run_laid.Lts as lts
-use Rattle.classes.proofs.fields_place.Reads as fields-place-reads
-use Rattle.heap.proofs.fill_rows.Reads as fill-rows-reads
-use Rattle.run.proofs.judge.Reads as judge-reads
-use Rattle.run.proofs.run_clear.Reads as run-clear-reads
 
--- src/lib.rt:163:27
 fields-place-requires : tie.Need-fields-place-requires
 fields-place-requires c κs = search needs
 
--- src/lib.rt:163:22
 enum-known-p : tie.Need-enum-known-p
 enum-known-p c = search needs
 
--- src/lib.rt:164:9
 returns : tie.Need-returns
 returns c = record { numbers = fields-refused _ _ _ _ _ _ (c .before .before .before .before .before .before .before .before .pre .1) (sym (c .before .before .before .fields-place .ensures) ∙ c .before .p .given .1); heap = refl; room = refl }
 
 enum-told : tie.Need-enum-told
 enum-told c = search needs
 
--- src/lib.rt:168:28
 slice-aggregate-fill-rows : tie.Need-slice-aggregate-fill-rows
 slice-aggregate-fill-rows c = search needs
 
--- src/lib.rt:168:41
 slice-aggregate-fill-rows-2 : tie.Need-slice-aggregate-fill-rows-2
 slice-aggregate-fill-rows-2 c = search needs
 
--- src/lib.rt:168:5
 fill-rows-requires : tie.Need-fill-rows-requires
 fill-rows-requires c κs = (c .before .before .before .before .before .before .before .before .before .pre .0, (sym (c .before .before .before .before .fields-place .ensures) ∙ c .before .before .enum-told .given .1), search needs, search needs)
 
--- src/lib.rt:169:24
 slice-aggregate-judge : tie.Need-slice-aggregate-judge
 slice-aggregate-judge c = search needs
 
--- src/lib.rt:169:11
 judge-requires : tie.Need-judge-requires
 judge-requires c κs = search needs
 
--- src/lib.rt:170:25
 enum-known-f : tie.Need-enum-known-f
 enum-known-f c = search needs
 
--- src/lib.rt:172:38
 enum-told-2 : tie.Need-enum-told-2
 enum-told-2 c = search needs
 
--- src/lib.rt:172:38
 slice-aggregate-run-clear : tie.Need-slice-aggregate-run-clear
 slice-aggregate-run-clear c = search needs
 
--- src/lib.rt:172:47
 slice-aggregate-run-clear-2 : tie.Need-slice-aggregate-run-clear-2
 slice-aggregate-run-clear-2 c = search needs
 
--- src/lib.rt:172:17
 run-clear-requires : tie.Need-run-clear-requires
 run-clear-requires c κs = (c .before .before .before .before .before .before .before .before .before .before .before .before .before .before .before .before .before .before .before .before .before .pre .0, c .before .before .before .before .before .before .before .before .before .before .before .fill-rows .ensures, (sym (c .before .before .before .before .before .before .before .before .before .before .before .before .before .before .before .before .fields-place .ensures) ∙ c .before .before .before .before .before .before .before .before .before .before .before .before .before .before .enum-told .given .1), rw (c .before .before .before .before .enum-told2 .given .1) at (c .before .before .before .before .before .before .judge .ensures))
 
--- src/lib.rt:151:1
 same-length : tie.Need-same-length
 same-length c = search needs
 
--- src/lib.rt:151:1
 returns-2 : tie.Need-returns-2
 returns-2 c = record { numbers = (rw (c .before .f .given .1) at (c .before .before .before .judge .ensures)) ∙ lent-asked _ _ _ _ _ (c .before .before .before .before .before .before .before .before .before .before .before .before .before .before .before .before .before .before .pre .1) (sym (c .before .before .before .before .before .before .before .before .before .before .before .before .before .fields-place .ensures) ∙ c .before .before .before .before .before .before .before .before .before .before .before .enum-told .given .1); heap = refl; room = refl }
 
--- src/lib.rt:151:1
 same-length-2 : tie.Need-same-length-2
 same-length-2 c = search needs
 
--- src/lib.rt:151:1
 same-length-3 : tie.Need-same-length-3
 same-length-3 c = search needs
 
--- src/lib.rt:151:1
 returns-3 : tie.Need-returns-3
 returns-3 c = let w = rw (c .before .before .before .before .before .before .before .before .before .enum-told2 .given .1) at (c .before .before .before .before .before .before .before .before .before .before .before .judge .ensures) in let r = c .before .before .before .before .run-clear .ensures in record { sound = sym (lent-asked _ _ _ _ _ (c .before .before .before .before .before .before .before .before .before .before .before .before .before .before .before .before .before .before .before .before .before .before .before .before .before .before .pre .1) (sym (c .before .before .before .before .before .before .before .before .before .before .before .before .before .before .before .before .before .before .before .before .before .fields-place .ensures) ∙ c .before .before .before .before .before .before .before .before .before .before .before .before .before .before .before .before .before .before .before .enum-told .given .1)) ∙ w .answer; end = r .0 .end-is; count = r .0 .count-is; heap = r .0 .heap-is; room = r .1 }
 
