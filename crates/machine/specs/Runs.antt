@@ -9,13 +9,11 @@ use lib.Dec.{ltb}
 use lib.ListN.{length, getD}
 use borrow.Author.Tests.{ltb-true, ltb-false}
 use Rattle.image.specs.Trailer.{classCount, nodeCount}
-use Rattle.image.specs.Nodes.{nodeWord, kindOf, operands, nodeHolds}
+use Rattle.image.specs.Nodes.{nodeHolds}
 use Rattle.rules.specs.declared.End.{End}
 use Rattle.rules.specs.declared.End.the-variants.{Returned, Threw, OutOfSteps, TooDeep, Stuck}
-use Rattle.rules.specs.Trees.{operand}
 use Rattle.rules.specs.Program.{program}
-use Rattle.rules.specs.Heap.{heapOf, wordsOf}
-use Rattle.rules.specs.Step.{bare, thrown-at}
+use Rattle.rules.specs.Heap.{heapOf}
 use Rattle.rules.specs.Run.{Ended, run, heapAfter}
 use Rattle.laws.specs.Values.{valueAt}
 use Rattle.laws.specs.Trees.{node-size}
@@ -24,7 +22,7 @@ use Rattle.laws.specs.Heap.{words-heap}
 use Rattle.room.specs.declared.Focus.{Focus}
 use Rattle.room.specs.declared.Focus.the-variants.{Node, Value, Thrown}
 use Rattle.room.specs.Room.{searchWord, Shape, first, second, operands as calls, block, test, loop, nothing, shapeOf, word, tag, kept, frames, FrameOk, Fit}
-use Rattle.room.specs.Stack.{Goes, Halts, Beyond, run-goes, run-full, run-halts, run-beyond, run-value, run-thrown}
+use Rattle.room.specs.Stack.{Halts, Beyond, run-goes, run-full, run-halts, run-beyond, run-value, run-thrown}
 use Rattle.room.specs.Turn.{HeapOk, focusOf, FocusOk, Final, weight, behind, pending, phi, whole, outside, finds, Inv, Moves, Steps, Could, Sinks}
 use Rattle.machine.specs.declared.Finished.{Finished}
 use Rattle.machine.specs.Finished.{Finishes, endOf, sunkAt}

@@ -1,10 +1,10 @@
 -- When a value that is assigned is taken up: a sequence's first part sets the variable of the block around it, which is unset.
 use mathlib.Core.Path.{_≡_, refl, sym, _∙_, ap}
-use mathlib.Core.Bool.{Bool, true, false, cond, _&&_, _||_}
-use mathlib.Core.Option.{Option, none, some}
+use mathlib.Core.Bool.{Bool, true, false, _&&_, _||_}
+use mathlib.Core.Option.{none, some}
 use mathlib.Core.List.{List, _∷_}
 use mathlib.Core.Logic.{_⊎_, inl, inr}
-use Prim.Native.Nat.{ℕ, zero, suc, _+_, _*_, _-_, _≤_, _<_}
+use Prim.Native.Nat.{ℕ, zero, suc, _+_, _*_, _≤_, _<_}
 use native.Mathlib.Omega.{arith}
 use native.Mathlib.Decide.{ℕ-discrete}
 use lib.Dec.{eqb}
@@ -17,13 +17,13 @@ use Rattle.image.specs.Laws.{and-left, and-right}
 use Rattle.image.specs.Numbers.{variables}
 use Rattle.image.specs.Trailer.{nodeCount}
 use Rattle.image.specs.Nodes.{kindOf}
-use Rattle.rules.specs.Trees.{Expr, val, assign, seq}
+use Rattle.rules.specs.Trees.{Expr, val, assign}
 use Rattle.rules.specs.Step.{Store, blocked}
 use Rattle.rules.specs.Maps.{upd}
 use Rattle.laws.specs.Maps.{upd-twice}
 use Rattle.laws.specs.Values.{valueAt, IsValue}
-use Rattle.laws.specs.Frames.{Frame, blockF, seqF, assignF, plug, outer, plugs, outers, plugs-begun}
-use Rattle.room.specs.Room.{searchWord, frameAt, held, storeOf, shapeOf, begun, halfway, calling, loaded, operandOf, frameOf, word, tag, kept, frame, frames}
+use Rattle.laws.specs.Frames.{Frame, blockF, seqF, assignF, outer, plugs, outers, plugs-begun}
+use Rattle.room.specs.Room.{searchWord, held, storeOf, shapeOf, begun, halfway, calling, loaded, operandOf, frameOf, word, tag, kept, frame, frames}
 use Rattle.room.specs.RoomLaws.{store-at, set-store, set-frames, set-fit, fit-less}
 use Rattle.room.specs.declared.Focus.{Focus}
 use Rattle.room.specs.declared.Focus.the-variants.{Node}

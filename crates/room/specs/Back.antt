@@ -1,10 +1,10 @@
 -- Laws of a value that comes back to the frame of its node.
-use mathlib.Core.Path.{_≡_, refl, sym, _∙_, ap}
-use mathlib.Core.Bool.{Bool, true, false, cond}
-use mathlib.Core.Option.{Option, none, some}
+use mathlib.Core.Path.{_≡_, refl, sym, _∙_}
+use mathlib.Core.Bool.{true, false}
+use mathlib.Core.Option.{some}
 use mathlib.Core.List.{List, _∷_}
 use mathlib.Core.Logic.{_⊎_, inl, inr}
-use Prim.Native.Nat.{ℕ, zero, suc, _+_, _*_, _-_, _≤_, _<_}
+use Prim.Native.Nat.{ℕ, suc, _+_, _-_, _≤_, _<_}
 use native.Mathlib.Omega.{arith}
 use lib.ListN.{length, getD, set, length-set}
 use lib.Seq.{getD-set-same, getD-set-other}
@@ -17,21 +17,21 @@ use Rattle.image.specs.Numbers.{variables}
 use Rattle.image.specs.Trailer.{nodeCount}
 use Rattle.image.specs.Nodes.{nodeWord, kindOf, operands, nodeHolds}
 use Rattle.rules.specs.Maps.{upd}
-use Rattle.rules.specs.Trees.{Expr, val, block, assign, seq, ite, while, operand}
+use Rattle.rules.specs.Trees.{block, seq, operand}
 use Rattle.rules.specs.Program.{program}
-use Rattle.rules.specs.Heap.{Heap, heapOf}
-use Rattle.rules.specs.Step.{Store, Out, Redex, gives, raises, fails, addRedex, eqRedex, castRedex, getRedex, putRedex, redex, thrown-at, bare, nullPointer, ifOut, throwOut, view, assigned, blocked, load, step}
+use Rattle.rules.specs.Heap.{heapOf}
+use Rattle.rules.specs.Step.{Out, Redex, gives, raises, fails, addRedex, eqRedex, castRedex, getRedex, putRedex, redex, thrown-at, bare, ifOut, throwOut, view, assigned, blocked, step}
 use Rattle.laws.specs.Values.{valueAt, IsValue}
-use Rattle.laws.specs.Trees.{operandCount, operand-below, operand-after, operand-first, node-size}
-use Rattle.laws.specs.Frames.{Frame, castF, addL, addR, eqL, eqR, assignF, getF, putL, putR, blockF, seqF, iteF, throwF, tryF, plug, outer, plugs, outers, Plain, value-plain, step-cast, step-add, step-eq, step-assign, step-get, step-put, step-block, step-seq, step-if, step-throw, step-try}
+use Rattle.laws.specs.Trees.{operandCount, operand-below, operand-after}
+use Rattle.laws.specs.Frames.{Frame, castF, addR, eqR, assignF, getF, putR, blockF, seqF, iteF, throwF, tryF, plug, outer, Plain, value-plain, step-cast, step-add, step-eq, step-assign, step-get, step-put, step-block, step-seq, step-if, step-throw, step-try}
 use Rattle.room.specs.declared.Focus.{Focus}
 use Rattle.room.specs.declared.Focus.the-variants.{Node, Value as Word, Thrown}
-use Rattle.room.specs.Room.{searchWord, frameAt, held, storeOf, first, second, test, loop, shapeOf, begun, halfway, loaded, operandOf, frameOf, word, tag, kept, frame, frames, IsNode, Held, FrameOk, Fit}
-use Rattle.room.specs.RoomLaws.{Kept, kept-refl, kept-set, kept-store, kept-fit, frames-more, fit-more, fit-less, set-store, set-frames, set-fit, store-at}
-use Rattle.room.specs.Stack.{Goes, Halts, goes-back, halts-back, assign-plain}
-use Rattle.room.specs.Turn.{HeapOk, focusOf, FocusOk, weight, behind, pending, phi, whole, outside, finds, Inv, Moves, Steps}
-use Rattle.room.specs.Enter.{loaded-node, sizes, plugs-in, outers-in, pending-same, pending-kept}
-use Rattle.room.specs.Armed.{armedSeq, armedSeq-not, frame-block, frame-seq, frame-loop}
+use Rattle.room.specs.Room.{searchWord, frameAt, held, storeOf, first, second, test, loop, shapeOf, begun, halfway, loaded, operandOf, frameOf, word, tag, kept, frame, frames, IsNode, Held, FrameOk}
+use Rattle.room.specs.RoomLaws.{Kept, kept-refl, kept-set, kept-store, kept-fit, frames-more, fit-more, fit-less, set-store, set-frames, set-fit}
+use Rattle.room.specs.Stack.{Halts, goes-back, halts-back, assign-plain}
+use Rattle.room.specs.Turn.{HeapOk, focusOf, FocusOk, weight, behind, pending, finds, Inv, Moves, Steps}
+use Rattle.room.specs.Enter.{plugs-in, outers-in, pending-kept}
+use Rattle.room.specs.Armed.{armedSeq, armedSeq-not}
 use Rattle.room.specs.Nodes.{length-frames, assign-local}
 
 module _ (ws : List ℕ) (good : (n : ℕ) → n < nodeCount ws → nodeHolds ws n ≡ true) (D : ℕ) (hs room : List ℕ) (i w : ℕ)

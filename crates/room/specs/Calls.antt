@@ -1,15 +1,14 @@
 -- Laws of calls: a Call's operands one after the other, and the blocks around a method's body.
 use mathlib.Core.Path.{_≡_, refl, sym, _∙_, ap}
-use mathlib.Core.Bool.{Bool, true, false, cond}
-use mathlib.Core.Option.{Option, none, some}
-use mathlib.Core.List.{List, [], _∷_, _++_, map}
-use Prim.Native.Nat.{ℕ, zero, suc, _+_, _*_, _-_, _≤_, _<_}
+use mathlib.Core.Bool.{true}
+use mathlib.Core.Option.{some}
+use mathlib.Core.List.{List, [], _∷_, map}
+use Prim.Native.Nat.{ℕ, zero, suc, _+_, _-_, _≤_, _<_}
 use native.Mathlib.Omega.{arith}
 use native.Mathlib.Decide.{ℕ-discrete}
-use lib.Dec.{ltb}
 use lib.ListN.{length, getD, set, drop, length-set}
 use lib.Seq.{getD-set-same, getD-set-other}
-use borrow.Author.Tests.{lt-ltb, ltb-true}
+use borrow.Author.Tests.{lt-ltb}
 use Rattle.words.specs.declared.Value.{Value}
 use Rattle.words.specs.declared.Ty.{Ty}
 use Rattle.words.specs.Types.{typeOf}
@@ -17,7 +16,7 @@ use Rattle.image.specs.Numbers.{mostArguments, variables}
 use Rattle.image.specs.Trailer.{nodeCount}
 use Rattle.image.specs.Nodes.{nodeWord, kindOf, operands, nodeHolds}
 use Rattle.rules.specs.Maps.{upd, tabulate}
-use Rattle.rules.specs.Trees.{Expr, Exprs, nil, cons, val, call, block, operand, arguments}
+use Rattle.rules.specs.Trees.{Expr, cons, call, block, operand, arguments}
 use Rattle.rules.specs.Program.{Program, program}
 use Rattle.rules.specs.Heap.{Heap, heapOf}
 use Rattle.rules.specs.Step.{Store, Out, bare, view, assigned, blocked, blocks, callOut, step}
@@ -26,10 +25,10 @@ use Rattle.laws.specs.Values.{valueAt, IsValue}
 use Rattle.laws.specs.Trees.{operandCount, operand-below, operand-after}
 use Rattle.laws.specs.Frames.{Frame, callL, callR, blockF, plug, outer, plugs, outers, operandsOf, operands-move, Plain, quiet-plain, value-plain, blocked-some, step-call, step-call-none}
 use Rattle.room.specs.declared.Focus.the-variants.{Node, Value as Word}
-use Rattle.room.specs.Room.{searchWord, mostOperands, frameAt, held, storeOf, operands as calls, shapeOf, calling, loaded, operandOf, frameOf, word, tag, kept, frame, frames, IsNode, Held, FrameOk, Fit}
+use Rattle.room.specs.Room.{searchWord, mostOperands, frameAt, held, storeOf, operands as calls, shapeOf, calling, loaded, operandOf, frameOf, word, tag, kept, frame, frames, Fit}
 use Rattle.room.specs.RoomLaws.{Kept, kept-refl, kept-set, kept-store, kept-frames, kept-fit, frames-more, fit-more, fit-less, block-in, block-around, pushBlock, block-size, block-below, block-above, block-fit, block-plugs, block-outers}
 use Rattle.room.specs.Stack.{found, Goes, goes-back, Beyond, beyond-at, busy}
-use Rattle.room.specs.Turn.{HeapOk, focusOf, weight, behind, pending, phi, finds, Inv, Moves, Steps, Sinks}
+use Rattle.room.specs.Turn.{HeapOk, focusOf, weight, behind, pending, finds, Inv, Moves, Steps, Sinks}
 use Rattle.room.specs.Enter.{plugs-in, outers-in, pending-kept}
 use Rattle.room.specs.Nodes.{length-frames, quiet-other, call-count}
 use Rattle.room.specs.Back.{Back, is-call}

@@ -1,30 +1,24 @@
 -- Laws of going into a node: a frame is pushed, and the expression stays as it is.
-use mathlib.Core.Path.{_≡_, refl, sym, _∙_, ap}
-use mathlib.Core.Bool.{Bool, true, false}
-use mathlib.Core.Option.{none, some}
+use mathlib.Core.Path.{_≡_, refl, _∙_, ap}
+use mathlib.Core.Bool.{true}
 use mathlib.Core.List.{List, _∷_}
-use Prim.Native.Nat.{ℕ, zero, suc, _+_, _*_, _-_, _≤_, _<_}
+use Prim.Native.Nat.{ℕ, zero, suc, _+_, _-_, _≤_, _<_}
 use native.Mathlib.Omega.{arith}
-use lib.ListN.{length, getD, set, length-set}
-use lib.Seq.{getD-set-same, getD-set-other}
-use Rattle.words.specs.Types.{typeOf}
+use lib.ListN.{length, getD}
 use Rattle.words.specs.Value.{valueWith}
 use Rattle.image.specs.declared.Kind.{Kind}
 use Rattle.image.specs.declared.Kind.the-variants.{New, Cast, Value as Literal, Var, Add, Eq, Assign, Get, Set, Call, Block, Seq, If, While, Throw, Try, Unknown}
-use Rattle.image.specs.Numbers.{variables}
 use Rattle.image.specs.Trailer.{nodeCount}
 use Rattle.image.specs.Nodes.{nodeWord, kindOf, operands, nodeHolds}
-use Rattle.rules.specs.Maps.{upd}
-use Rattle.rules.specs.Trees.{Expr, Exprs, nil, cons, operand, written, arguments, nodeOf, nodeTree, tree}
+use Rattle.rules.specs.Trees.{Expr, operand, written, arguments, nodeOf, nodeTree, tree}
 use Rattle.rules.specs.Step.{Store, blocked, load, loads, bare}
-use Rattle.laws.specs.Maps.{upd-same, upd-restore}
 use Rattle.laws.specs.Values.{valueAt, IsValue}
-use Rattle.laws.specs.Trees.{operandCount, operand-below, operand-spans, operand-first, node-size, tree-node, tree-value, tree-block}
+use Rattle.laws.specs.Trees.{operandCount, operand-below, operand-first, node-size, tree-node, tree-value}
 use Rattle.laws.specs.Frames.{Frame, plug, outer, plugs, outers}
-use Rattle.room.specs.declared.Focus.the-variants.{Node, Value, Thrown}
-use Rattle.room.specs.Room.{searchWord, frameAt, held, storeOf, Shape, first, operands as calls, block, shapeOf, begun, calling, loaded, operandOf, frameOf, word, tag, kept, frame, frames, Held, FrameOk, Fit}
-use Rattle.room.specs.RoomLaws.{Kept, kept-refl, kept-set, kept-store, frames-more, kept-fit, fit-more, set-store, set-frames, set-fit, store-at, push, push-kept, push-tag, push-place, push3, push3-kept, push3-tag, push3-place, push3-third}
-use Rattle.room.specs.Turn.{focusOf, weight, behind, pending, phi, whole, outside, Inv, Moves}
+use Rattle.room.specs.declared.Focus.the-variants.{Node, Value}
+use Rattle.room.specs.Room.{searchWord, frameAt, storeOf, first, shapeOf, begun, calling, loaded, frameOf, word, tag, kept, frame, frames, FrameOk}
+use Rattle.room.specs.RoomLaws.{Kept, kept-store, frames-more, kept-fit, fit-more, push, push-kept, push-tag, push-place, push3, push3-kept, push3-tag, push3-place, push3-third}
+use Rattle.room.specs.Turn.{focusOf, weight, behind, pending, Inv, Moves}
 
 -- the kinds whose first operand is gone into with a frame of a tag and a place
 abbrev pub Opens : Kind → Type 0

@@ -1,18 +1,15 @@
 -- Laws of nodes: what their words must be, and what the step of one finds.
 use mathlib.Core.Path.{_≡_, refl, sym, _∙_, ap}
-use mathlib.Core.Bool.{Bool, true, false, cond, _&&_}
+use mathlib.Core.Bool.{Bool, true, false}
 use mathlib.Core.Option.{Option, none, some}
-use mathlib.Core.List.{List, _∷_}
-use mathlib.Core.Logic.{_⊎_, inl, inr}
-use Prim.Native.Nat.{ℕ, zero, suc, _+_, _*_, _-_, _^_, _≤_, _<_}
+use mathlib.Core.List.{List}
+use Prim.Native.Nat.{ℕ, zero, suc, _^_, _≤_, _<_}
 use native.Mathlib.Omega.{arith}
 use lib.Dec.{eqb, ltb, leb}
 use lib.ListN.{length, getD}
 use borrow.Author.Tests.{ltb-true, leb-true}
 use Rattle.words.specs.declared.Value.{Value}
 use Rattle.words.specs.declared.Value.the-variants.{Null, Intg, Addr}
-use Rattle.words.specs.declared.Decoded.{Decoded}
-use Rattle.words.specs.declared.Decoded.the-variants.{Is, Not}
 use Rattle.words.specs.declared.Ty.{Ty}
 use Rattle.words.specs.Types.{typeOf, isDeclared}
 use Rattle.words.specs.Value.{valueWith, isValue, given}
@@ -23,20 +20,19 @@ use Rattle.image.specs.Numbers.{highestName, mostArguments, variables, writtenT
 use Rattle.image.specs.Trailer.{classCount, nodeCount}
 use Rattle.image.specs.Records.{isName}
 use Rattle.image.specs.Nodes.{nodeWord, kindOf, isClass, isVariable, isLocal, isUnused, namesHold, operands, reach, sizeIs, nodeHolds}
-use Rattle.rules.specs.Trees.{Expr, Exprs, new, cast, val, var, add, eq, assign, get, put, call, block, seq, ite, while, throw, try, operand, written, arguments, nodeOf, tree}
+use Rattle.rules.specs.Trees.{Expr, var, assign, seq, ite, while, operand, written, nodeOf, tree}
 use Rattle.rules.specs.Program.{program}
-use Rattle.rules.specs.Heap.{Heap, heapOf, lowestFree}
-use Rattle.rules.specs.Step.{Store, Out, Redex, gives, raises, fails, readRedex, newRedex, redex, thrown-at, bare, View, isSeq, isAssign, isVal, other, view, valueIn, assigned, remember, settle, blocked, load, step}
-use Rattle.laws.specs.Values.{valueAt, IsValue}
-use Rattle.laws.specs.Trees.{operandCount, operand-below, node-size, known}
-use Rattle.laws.specs.Frames.{Frame, assignF, seqF, iteF, plug, outer, plugs, outers, begun, Plain, Quiet, quiet-plain, step-new, step-var, step-while}
-use Rattle.room.specs.declared.Focus.{Focus}
+use Rattle.rules.specs.Heap.{Heap, heapOf}
+use Rattle.rules.specs.Step.{Store, Out, gives, readRedex, redex, bare, View, isSeq, isAssign, isVal, other, view, valueIn, assigned, remember, settle, blocked, load, step}
+use Rattle.laws.specs.Values.{valueAt}
+use Rattle.laws.specs.Trees.{operandCount, operand-below, known}
+use Rattle.laws.specs.Frames.{plug, outer, plugs, outers, begun, Plain, Quiet, quiet-plain, step-var, step-while}
 use Rattle.room.specs.declared.Focus.the-variants.{Node, Value as Word}
-use Rattle.room.specs.Room.{searchWord, frameAt, held, storeOf, shapeOf, loaded, operandOf, frameOf, word, tag, kept, frame, frames, Held, Fit}
-use Rattle.room.specs.RoomLaws.{Kept, kept-store, kept-fit, frames-more, fit-more, store-at, push, push-kept, push-tag, push-place, pushBlock, block-size, block-below, block-tag, block-fit, block-plugs, block-outers}
-use Rattle.room.specs.Stack.{Goes, Halts, Beyond, goes-at, halts-at, beyond-at, Works, busy, Unarmed, assign-plain}
-use Rattle.room.specs.Turn.{HeapOk, focusOf, weight, behind, pending, phi, whole, outside, finds, Inv, Moves, Steps}
-use Rattle.room.specs.Enter.{loaded-node, sizes, pending-same, pending-kept, plugs-in, outers-in}
+use Rattle.room.specs.Room.{searchWord, frameAt, held, storeOf, shapeOf, loaded, operandOf, frameOf, word, tag, frame, frames}
+use Rattle.room.specs.RoomLaws.{kept-store, kept-fit, frames-more, fit-more, store-at, push, push-kept, push-tag, push-place, pushBlock, block-size, block-below, block-tag, block-fit, block-plugs, block-outers}
+use Rattle.room.specs.Stack.{Goes, Halts, Beyond, goes-at, halts-at, beyond-at, Works, busy}
+use Rattle.room.specs.Turn.{HeapOk, focusOf, weight, behind, pending, finds, Inv, Moves, Steps}
+use Rattle.room.specs.Enter.{loaded-node, sizes, pending-same}
 
 pub length-frames : (ws room : List ℕ) (l : ℕ) → length (frames ws room l) ≡ l
 unfolding frames

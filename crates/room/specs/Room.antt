@@ -1,7 +1,7 @@
 -- How the lent room holds a running expression. Words 0 to 63 are the variables. Word 64 is the slot from which New goes on to look
 -- for a free one. From word 80 on there are frames of 16 words, one for each constructor above the active place, the root's first.
 use mathlib.Core.Path.{_≡_}
-use mathlib.Core.Bool.{Bool, true, cond}
+use mathlib.Core.Bool.{cond}
 use mathlib.Core.Option.{Option, none, some}
 use mathlib.Core.List.{List, [], _∷_}
 use Prim.Native.Nat.{ℕ, zero, suc, _+_, _*_, _-_, _≤_, _<_}

@@ -1,12 +1,12 @@
 -- Laws of the room's words: what a write leaves as it was, and what it makes.
 use mathlib.Core.Path.{_≡_, refl, sym, _∙_, ap}
-use mathlib.Core.Bool.{Bool, true, false, cond}
+use mathlib.Core.Bool.{Bool, true, false}
 use mathlib.Core.Option.{Option}
 use mathlib.Core.List.{List, _∷_}
-use Prim.Native.Nat.{ℕ, zero, suc, _+_, _*_, _-_, _≤_, _<_}
+use Prim.Native.Nat.{ℕ, zero, suc, _+_, _≤_, _<_}
 use native.Mathlib.Omega.{arith}
 use native.Mathlib.Decide.{ℕ-discrete}
-use lib.Dec.{ltb, eqb}
+use lib.Dec.{ltb}
 use lib.ListN.{length, getD, set, length-set}
 use lib.Seq.{getD-set-same, getD-set-other}
 use borrow.Author.Tests.{ltb-true, lt-ltb, eq-eqb, ne-eqb}
@@ -18,9 +18,8 @@ use Rattle.rules.specs.Maps.{upd}
 use Rattle.rules.specs.Trees.{Expr}
 use Rattle.rules.specs.Step.{Store, blocked}
 use Rattle.laws.specs.Maps.{upd-same, upd-restore}
-use Rattle.laws.specs.Values.{valueAt, IsValue}
 use Rattle.laws.specs.Frames.{Frame, blockF, plug, outer, plugs, outers}
-use Rattle.room.specs.Room.{searchWord, mostOperands, frameAt, held, storeOf, Shape, shapeOf, frameOf, word, tag, kept, frame, frames, Held, FrameOk, Fit}
+use Rattle.room.specs.Room.{mostOperands, frameAt, held, storeOf, shapeOf, frameOf, word, tag, kept, frame, frames, Held, FrameOk, Fit}
 
 -- what stands below frame l is as it was
 pub record Kept (old new : List ℕ) (l : ℕ) : Type 0 where

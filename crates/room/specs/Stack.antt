@@ -1,11 +1,11 @@
 -- What a step at the active place is for the whole, with the test of the depth; and which frames leave the expression in them as it is.
-use mathlib.Core.Path.{_≡_, refl, sym, _∙_}
+use mathlib.Core.Path.{_≡_, refl}
 use mathlib.Core.Bool.{Bool, true, false, cond}
 use mathlib.Core.Option.{Option, none, some}
 use mathlib.Core.List.{List, [], _∷_}
 use Prim.Native.Nat.{ℕ, zero, suc, _+_, _≤_, _<_}
 use native.Mathlib.Omega.{arith}
-use lib.Dec.{eqb, leb}
+use lib.Dec.{eqb}
 use lib.ListN.{length}
 use borrow.Author.Tests.{le-leb, lt-leb, ne-eqb}
 use Rattle.words.specs.declared.Value.{Value}
@@ -18,9 +18,9 @@ use Rattle.rules.specs.Trees.{Expr, Exprs, new, cast, val, var, add, eq, assign
 use Rattle.rules.specs.Program.{Method, Program}
 use Rattle.rules.specs.Classes.{subclass, seesMethod}
 use Rattle.rules.specs.Heap.{Slot, free, obj, Heap, look, lowestFree}
-use Rattle.rules.specs.Step.{Store, Out, Outs, Redex, gives, raises, fails, thrown-at, View, isSeq, isAssign, isVal, other, view, valueIn, assigned, blocked, redex, under, unders, both, ifOut, throwOut, blockOut, blocks, load, addRedex, eqRedex, newRedex, castRedex, getRedex, putRedex, readRedex, callOut, callSlot, enter, catchSlot, tryOut, step, steps, bare}
+use Rattle.rules.specs.Step.{Store, Out, Outs, Redex, gives, raises, fails, thrown-at, view, valueIn, assigned, blocked, redex, under, unders, both, ifOut, throwOut, blockOut, blocks, load, addRedex, eqRedex, newRedex, castRedex, getRedex, putRedex, readRedex, callOut, callSlot, enter, catchSlot, tryOut, step, steps, bare}
 use Rattle.rules.specs.Run.{judge, run}
-use Rattle.laws.specs.Frames.{Frame, castF, addL, addR, eqL, eqR, assignF, getF, putL, putR, callL, callR, blockF, seqF, iteF, throwF, tryF, plug, outer, plugs, outers, nexts-in, stucks-in, begun, blocked-some, blocked-none, Plain, plain-plugs, Quiet, plug-value, plug-assign, plug-begin, plug-plain, quiet-plain}
+use Rattle.laws.specs.Frames.{Frame, castF, addL, addR, eqL, eqR, assignF, getF, putL, putR, callL, callR, blockF, seqF, iteF, throwF, tryF, plug, outer, plugs, outers, nexts-in, stucks-in, begun, blocked-some, blocked-none, Plain, plain-plugs, plug-value, plug-assign, plug-begin, plug-plain, quiet-plain}
 
 -- what the whole's step finds, the active place being e under a stack of frames
 abbrev pub found : Program → Heap → List Frame → Store → Expr → Out

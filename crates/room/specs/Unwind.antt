@@ -1,34 +1,31 @@
 -- Laws of Throw of an address: it moves outward, one frame a step, up to a Try that catches it.
-use mathlib.Core.Path.{_≡_, refl, sym, _∙_, ap}
-use mathlib.Core.Bool.{Bool, true, false}
-use mathlib.Core.Option.{Option, none, some}
+use mathlib.Core.Path.{_≡_, refl, _∙_}
+use mathlib.Core.Bool.{true}
+use mathlib.Core.Option.{some}
 use mathlib.Core.List.{List, _∷_}
-use Prim.Native.Nat.{ℕ, zero, suc, _+_, _*_, _-_, _≤_, _<_}
+use Prim.Native.Nat.{ℕ, zero, suc, _+_, _≤_, _<_}
 use native.Mathlib.Omega.{arith}
 use lib.ListN.{length, getD, set, length-set}
 use lib.Seq.{getD-set-other}
-use Rattle.words.specs.declared.Value.{Value}
 use Rattle.words.specs.declared.Value.the-variants.{Addr}
-use Rattle.words.specs.declared.Ty.the-variants.{Void, Class}
+use Rattle.words.specs.declared.Ty.the-variants.{Class}
 use Rattle.words.specs.Types.{typeOf}
-use Rattle.words.specs.Value.{addresses}
 use Rattle.image.specs.Numbers.{variables}
 use Rattle.image.specs.Trailer.{nodeCount}
 use Rattle.image.specs.Nodes.{nodeWord, kindOf, operands, nodeHolds}
-use Rattle.rules.specs.Maps.{upd}
-use Rattle.rules.specs.Trees.{Expr, block, operand}
+use Rattle.rules.specs.Trees.{block, operand}
 use Rattle.rules.specs.Program.{Program, program}
 use Rattle.rules.specs.Heap.{Heap, heapOf, look}
-use Rattle.rules.specs.Step.{Store, Out, thrown-at, bare, view, under, throwOut, catchSlot, blocked, step}
+use Rattle.rules.specs.Step.{Store, Out, thrown-at, view, under, throwOut, catchSlot, step}
 use Rattle.laws.specs.Values.{valueAt, IsValue}
 use Rattle.laws.specs.Trees.{operandCount, operand-below}
-use Rattle.laws.specs.Frames.{Frame, blockF, tryF, plug, outer, plugs, outers, thrownOut, thrown-in, Plain, quiet-plain, blocked-some}
+use Rattle.laws.specs.Frames.{plug, outer, thrownOut, thrown-in, Plain, quiet-plain, blocked-some}
 use Rattle.room.specs.declared.Focus.{Focus}
-use Rattle.room.specs.declared.Focus.the-variants.{Node, Value as Word, Thrown}
-use Rattle.room.specs.Room.{searchWord, frameAt, held, storeOf, first, shapeOf, begun, halfway, calling, operandOf, frameOf, word, tag, kept, frame, frames, IsNode, Held, FrameOk, Fit}
+use Rattle.room.specs.declared.Focus.the-variants.{Node, Thrown}
+use Rattle.room.specs.Room.{searchWord, frameAt, held, storeOf, shapeOf, begun, halfway, calling, operandOf, frameOf, word, tag, kept, frame, frames, IsNode}
 use Rattle.room.specs.RoomLaws.{fit-less, set-store, set-frames, set-fit, pushBlock, block-size, block-below, block-fit, block-plugs, block-outers}
-use Rattle.room.specs.Stack.{Goes, Halts, goes-back, halts-back}
-use Rattle.room.specs.Turn.{HeapOk, focusOf, FocusOk, finds, Inv, Steps}
+use Rattle.room.specs.Stack.{Halts, goes-back, halts-back}
+use Rattle.room.specs.Turn.{HeapOk, focusOf, finds, Inv, Steps}
 use Rattle.room.specs.Nodes.{length-frames, quiet-other, try-local}
 
 -- every frame but a Try's passes it on, and every one but a block's leaves the variables alone

@@ -1,26 +1,23 @@
 -- Laws: how the room begins, and what the tests of a run bring.
 use mathlib.Core.Path.{_≡_, refl, sym, _∙_, ap}
 use mathlib.Core.Bool.{Bool, true, false, _&&_}
-use mathlib.Core.Option.{Option, none, some}
-use mathlib.Core.List.{List, [], _∷_, _++_, map}
-use mathlib.Core.Logic.{_⊎_, inl, inr}
-use Prim.Native.Nat.{ℕ, zero, suc, _+_, _*_, _-_, _/_, _%_, _^_, _≤_, _<_}
+use mathlib.Core.Option.{none, some}
+use mathlib.Core.List.{List, map}
+use Prim.Native.Nat.{ℕ, zero, suc, _+_, _/_, _%_, _^_, _≤_, _<_}
 use native.Mathlib.Omega.{arith}
 use native.Mathlib.Decide.{ℕ-discrete}
 use lib.Dec.{eqb, leb, ltb}
-use lib.ListN.{length, getD, set, replicate, length-set, length-map, length-replicate, getD-replicate}
+use lib.ListN.{length, getD, set, replicate, length-map, length-replicate, getD-replicate}
 use lib.Seq.{getD-set-same, getD-set-other, ext-getD}
 use borrow.Author.Tests.{ltb-true, ltb-false, lt-ltb, leb-true, le-leb, lt-leb, le-ltb, eqb-true, ne-eqb}
-use Rattle.order.specs.Rules.{Rule, scan, firstPlace, accepted, orElse, answerOf}
+use Rattle.order.specs.Rules.{scan, firstPlace, accepted, orElse, answerOf}
 use Rattle.order.specs.Lowest.{held, after-broken, after-sound}
-use Rattle.order.specs.declared.Answer.{Answer}
 use Rattle.order.specs.declared.Found.the-variants.{At, Nowhere}
-use Rattle.words.specs.Value.{addresses}
 use Rattle.image.specs.declared.Breach.{Breach}
 use Rattle.image.specs.Laws.{and-left, and-right}
 use Rattle.image.specs.declared.Layout.{Layout}
 use Rattle.image.specs.Numbers.{mostInputs, variables}
-use Rattle.image.specs.Trailer.{classCount, methodCount, nodeCount, mainNode, inputCount}
+use Rattle.image.specs.Trailer.{methodCount, nodeCount, mainNode, inputCount}
 use Rattle.image.specs.Nodes.{nodeWord, spans, bodyStart, bodyHolds, filledHolds}
 use Rattle.image.specs.Layout.{tested, layoutRules, breachNumbers, Good}
 use Rattle.layout.specs.Promise.{breach-told, layout-rising}
@@ -32,7 +29,7 @@ use Rattle.laws.specs.Frames.{plugs, outers}
 use Rattle.rules.specs.Numbers.{mostSlots, fewestSlots, mostDepth, roomWords, fieldsRule, heapLengthHolds, heapLengthRule, heapWordRule, inputHolds, inputRule, depthRule, roomRule, runRules}
 use Rattle.laws.specs.Maps.{from-at, from-below, from-beyond, getD-map}
 use Rattle.laws.specs.Values.{valueAt, IsValue}
-use Rattle.laws.specs.Heap.{Words, words}
+use Rattle.laws.specs.Heap.{words}
 use Rattle.redexes.specs.TagLaws.{tag-small}
 use Rattle.heap.specs.WordLaws.{inputs-count}
 use Rattle.room.specs.Room.{searchWord, frameAt, held as holding, storeOf, frames, Held, Fit}

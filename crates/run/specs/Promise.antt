@@ -1,14 +1,14 @@
 -- The run's promise, for the reader: a refusal is the lowest breach of 1 to 10, 14 to 16, 19 and 20, and a run that is not refused
 -- ends as the definition's run does. One answer meets the promise, with one heap and one room.
 use mathlib.Core.Path.{_≡_, refl, sym, _∙_, ap}
-use mathlib.Core.Bool.{true, false, cond}
+use mathlib.Core.Bool.{cond}
 use mathlib.Core.List.{List, [], _∷_}
 use mathlib.Core.Logic.{_↔_}
-use Prim.Native.Nat.{ℕ, zero, suc, _-_, _≤_, _<_}
+use Prim.Native.Nat.{ℕ, _-_, _≤_}
 use native.Mathlib.Omega.{arith}
-use lib.Dec.{eqb, ltb, leb}
+use lib.Dec.{ltb}
 use lib.ListN.{length, getD}
-use borrow.Author.Tests.{eqb-false, le-leb}
+use borrow.Author.Tests.{eqb-false}
 use Rattle.order.specs.declared.Answer.{Answer}
 use Rattle.order.specs.Rules.{answerOf, accepted, Tells, Sound}
 use Rattle.order.specs.Lowest.{Rising, only, accepts, determined}
