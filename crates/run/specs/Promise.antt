@@ -53,7 +53,7 @@ back Room = refl
 pub same-refusal : (f g : Refusal) → refusalNumbers f ≡ refusalNumbers g → f ≡ g
 same-refusal = determined refusalNumbers refusalOf back
 
-never-accepted : (f : Refusal) → refusalNumbers f .number ≡ 0 → ⊥
+pub never-accepted : (f : Refusal) → refusalNumbers f .number ≡ 0 → ⊥
 never-accepted (Layout b) e = eqb-false _ 0 (breach-range b .0) e
 never-accepted (Fields p) e = omega (arith, e)
 never-accepted HeapLength e = omega (arith, e)
