@@ -1,62 +1,14 @@
 //! Times of the runs, this program and a linked library by turns.
 
-use crate::cases::{read, Case};
-use crate::machine;
+use crate::cases::{read, Asked, Case};
+#[cfg(library)]
+use crate::library;
+use crate::{machine, Found};
 use std::time::Instant;
 
-/// The library's answer. Compiled anew for Arm, it takes the place of its result as a first argument; elsewhere it is C's.
-#[cfg(library)]
-#[repr(C)]
-struct Ended {
-    number: u64,
-    place: u64,
-    count: u64,
-    value: u64,
-}
-
-#[cfg(all(library, target_arch = "aarch64"))]
-extern "C" {
-    fn muthaveri_run(
-        to: *mut Ended, image: *const u32, image_len: usize, heap: *mut u64, heap_len: usize, inputs: *const u64, inputs_len: usize,
-        room: *mut u64, room_len: usize, steps: u64, depth: u64,
-    );
-}
-
-#[cfg(all(library, not(target_arch = "aarch64")))]
-extern "C" {
-    fn muthaveri_run(
-        image: *const u32, image_len: usize, heap: *mut u64, heap_len: usize, inputs: *const u64, inputs_len: usize,
-        room: *mut u64, room_len: usize, steps: u64, depth: u64,
-    ) -> Ended;
-}
-
-type Found = (u64, u64, u64, u64);
-
-fn plain(case: &Case, heap: &mut [u64], room: &mut [u64]) -> Found {
+pub fn plain(case: &Case, heap: &mut [u64], room: &mut [u64]) -> Found {
     let a = machine::run(&case.image, heap, &case.inputs, room, case.steps, case.depth);
     (a.number, a.place, a.count, a.value)
-}
-
-#[cfg(library)]
-fn library(case: &Case, heap: &mut [u64], room: &mut [u64]) -> Found {
-    let (image, inputs) = (&case.image, &case.inputs);
-    #[cfg(target_arch = "aarch64")]
-    let e = unsafe {
-        let mut e = Ended { number: 0, place: 0, count: 0, value: 0 };
-        muthaveri_run(
-            &mut e, image.as_ptr(), image.len(), heap.as_mut_ptr(), heap.len(), inputs.as_ptr(), inputs.len(), room.as_mut_ptr(),
-            room.len(), case.steps, case.depth,
-        );
-        e
-    };
-    #[cfg(not(target_arch = "aarch64"))]
-    let e = unsafe {
-        muthaveri_run(
-            image.as_ptr(), image.len(), heap.as_mut_ptr(), heap.len(), inputs.as_ptr(), inputs.len(), room.as_mut_ptr(), room.len(),
-            case.steps, case.depth,
-        )
-    };
-    (e.number, e.place, e.count, e.value)
 }
 
 /// How often a case runs within one measurement: some milliseconds' worth.
@@ -103,7 +55,7 @@ fn first(case: Case) -> Option<Measured> {
     {
         let after = heap.clone();
         heap.copy_from_slice(&case.heap);
-        let theirs = library(&case, &mut heap, &mut room);
+        let theirs = library::run(&case, &mut heap, &mut room);
         if theirs != found || heap != after || room.iter().any(|&w| w != 0) {
             println!("{:30} the answers differ: {found:?} here, {theirs:?} there", case.name);
             return None;
@@ -126,7 +78,8 @@ pub fn print(path: &str, rounds: u32) {
         eprintln!("{path}: {wrong}");
         std::process::exit(2)
     });
-    let cases = read(&text);
+    let mut cases = read(&text);
+    cases.retain(|case| case.asked == Asked::Run);
     let count = cases.len();
     let mut all: Vec<Measured> = cases.into_iter().filter_map(first).collect();
     for _ in 0..rounds {
@@ -135,7 +88,7 @@ pub fn print(path: &str, rounds: u32) {
             m.plain = m.plain.min(time(plain, &m.case, &mut m.heap, &mut m.room, often));
             #[cfg(library)]
             {
-                m.library = m.library.min(time(library, &m.case, &mut m.heap, &mut m.room, often));
+                m.library = m.library.min(time(library::run, &m.case, &mut m.heap, &mut m.room, often));
             }
         }
     }

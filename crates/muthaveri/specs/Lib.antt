@@ -1,0 +1,4 @@
+-- What each question answers.
+pub mod Answers
+-- Laws.
+pub mod AnswersLaws
