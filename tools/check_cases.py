@@ -3,12 +3,13 @@
 
     check_cases.py extra
         prints the hand-made cases of the checks: the ceilings, and breaches of
-        every number. They are the last part of crates/answer/stdin.
+        every number.
 
     check_cases.py runs
         prints the hand-made runs: the bench examples (three with their check
         too), what is refused and in which order, the limits, where it is easy
-        to go wrong, and lines that are no runs.
+        to go wrong, and lines that are no runs. They are the last part of
+        crates/answer/stdin.
 
     check_cases.py damaged COUNT SEED <CASES
         prints COUNT images, each one of CASES with a few words damaged. The
@@ -893,9 +894,23 @@ ODD_RUNS = [
     b"run a_bar_too_many | 1 | 2 | 3 | 4 | 5 | 6 |",
     b"run a_part_too_many | 1 | 2 | 3 | 4 | 5 | 6 | 7",
     b"run room_wrong_and_the_rest_missing | 1 | 2 | 3 | x",
+    b"run room_too_large | 1 | 2 | 3 | 18446744073709551616 | 5 | 6",
+    b"run room_too_long | 1 | 2 | 3 | 131073 | 5 | 6",
+    b"run room_too_long_and_the_rest_missing | 1 | 2 | 3 | 131073",
+    b"run room_too_long_and_no_step_limit | 1 | 2 | 3 | 131073 | | 6",
+    b"run empty_room | 1 | 2 | 3 | | 5 | 6",
+    b"run empty_room_and_the_rest_missing | 1 | 2 | 3 |",
+    b"run two_step_limits | 1 | 2 | 3 | 4 | 5 5 | 6",
+    b"run two_depth_limits | 1 | 2 | 3 | 4 | 5 | 6 6",
+    b"run no_blank_before_a_bar | 1 | 2 | 3 | 4| 5 | 6",
     b"run blanks_and_zeros\t|\t" + SMALLEST + b"\t|" + SYSTEM + b" ||\t00176 |007 | 1\r",
     b"runs a | 1 | 2 | 3 | 4 | 5 | 6",
     b"ru a | 1 | 2 | 3 | 4 | 5 | 6",
+    b"ronform a | 1 | 2 | 3",
+    b"cun a | 1 | 2 | 3 | 4 | 5 | 6",
+    b"run",
+    b"run | 1 | 2 | 3 | 4 | 5 | 6",
+    b"run no_bar 1",
 ]
 
 

@@ -952,6 +952,8 @@ def read_run(tail):
         if number is None:
             raise BadLine("the %s is no decimal number of 64 bits" % subject)
         numbers.append(number)
+    if numbers[0] > MOST_WORDS:
+        raise BadLine("there are more than 131072 words of room")
     return setting + tuple(numbers)
 
 

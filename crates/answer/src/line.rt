@@ -5,7 +5,15 @@ ghost use Prim.Native.Nat.{_≤_};
 ghost use lib.ListN.{length};
 ghost use Rattle.answer.specs.Kept.{Within, Same};
 use crate::report::Fault;
+use crate::report::Limit;
 use text::Fed;
+
+// The three numbers at the end of a run's case, 0 until they are read.
+pub struct Limits {
+    pub room: u64,
+    pub steps: u64,
+    pub depth: u64,
+}
 
 // So many bytes of the name, words of the image, words of the heap, and words of heap and inputs.
 pub struct Filled {
@@ -13,37 +21,55 @@ pub struct Filled {
     pub words: usize,
     pub heap: usize,
     pub rest: usize,
+    pub limits: Limits,
 }
 
-// Which words are read: the image that alone is asked about, or one of the three parts of a case of
-// conformity.
+pub enum Question {
+    Check,
+    Conform,
+    Run,
+}
+
+// Which words are read: the image that alone is asked about, or a part of a case of conformity or of
+// a run. Whether it is a run goes along.
 pub enum Part {
     Only,
-    Image,
-    Heap,
-    Inputs,
+    Image(bool),
+    Heap(bool),
+    Inputs(bool),
+    Number(Limit),
 }
 
 pub enum State {
     // nothing but blanks
     Start,
-    // so many letters of a question; whether it is `conform`
-    Question(bool, usize),
+    // so many letters of a question
+    Letters(Question, usize),
     // the question, and the name is awaited
-    Gap(bool),
-    Name(bool),
+    Gap(Question),
+    Name(Question),
     // the name, and the bar is awaited
-    Bar(bool),
+    Bar(Question),
     // between words
     Words(Part),
     // in a word of which the digits so far are a number
     Word(Part, u64),
+    // behind one of the three numbers
+    Given(Limit),
     Wrong(Fault),
 }
 
 pub struct Line {
     pub state: State,
     pub filled: Filled,
+}
+
+fn no_limits() -> Limits {
+    Limits {
+        room: 0,
+        steps: 0,
+        depth: 0,
+    }
 }
 
 pub fn empty() -> Line
@@ -56,6 +82,7 @@ pub fn empty() -> Line
             words: 0,
             heap: 0,
             rest: 0,
+            limits: no_limits(),
         },
     }
 }
@@ -70,6 +97,7 @@ pub fn unread() -> Line
             words: 0,
             heap: 0,
             rest: 0,
+            limits: no_limits(),
         },
     }
 }
@@ -85,8 +113,8 @@ pub fn step(s: Line, b: u8, name: &mut [u8], words: &mut [u32], rest: &mut [u64]
             state: start(b),
             filled: f,
         },
-        State::Question(q, k) => Line {
-            state: question(q, k, b),
+        State::Letters(q, k) => Line {
+            state: spell(q, k, b),
             filled: f,
         },
         State::Gap(q) => gap(q, f, b, name),
@@ -97,6 +125,10 @@ pub fn step(s: Line, b: u8, name: &mut [u8], words: &mut [u32], rest: &mut [u64]
         },
         State::Words(p) => between(p, f, b),
         State::Word(p, v) => in_word(p, v, f, b, words, rest),
+        State::Given(l) => Line {
+            state: given(l, b),
+            filled: f,
+        },
         State::Wrong(w) => Line {
             state: State::Wrong(w),
             filled: f,
@@ -108,14 +140,19 @@ fn start(b: u8) -> State {
     if text::is_blank(b) {
         return State::Start;
     }
-    question(false, 0, b)
+    spell(Question::Check, 0, b)
 }
 
 // Letter k of a question.
-fn letter(is_conform: bool, k: usize) -> u8 {
-    if is_conform {
-        return conform_letter(k);
+fn letter(q: Question, k: usize) -> u8 {
+    match q {
+        Question::Check => check_letter(k),
+        Question::Conform => conform_letter(k),
+        Question::Run => run_letter(k),
     }
+}
+
+fn check_letter(k: usize) -> u8 {
     match k {
         0 => b'c',
         1 => b'h',
@@ -139,10 +176,36 @@ fn conform_letter(k: usize) -> u8 {
     }
 }
 
-// The second letter tells which question it is.
-fn question(is_conform: bool, k: usize, b: u8) -> State {
-    let is_other = k == 1 && b == b'o';
-    let q = is_conform || is_other;
+fn run_letter(k: usize) -> u8 {
+    match k {
+        0 => b'r',
+        1 => b'u',
+        2 => b'n',
+        _ => b' ',
+    }
+}
+
+// What is taken for `check` so far is another question by its first or second letter.
+fn told_by(q: Question, k: usize, b: u8) -> Question {
+    match q {
+        Question::Check => told_by_letter(k, b),
+        Question::Conform => Question::Conform,
+        Question::Run => Question::Run,
+    }
+}
+
+fn told_by_letter(k: usize, b: u8) -> Question {
+    if k == 0 && b == b'r' {
+        return Question::Run;
+    }
+    if k == 1 && b == b'o' {
+        return Question::Conform;
+    }
+    Question::Check
+}
+
+fn spell(before: Question, k: usize, b: u8) -> State {
+    let q = told_by(before, k, b);
     let wanted = letter(q, k);
     if wanted == b' ' {
         return asked(q, b);
@@ -151,13 +214,13 @@ fn question(is_conform: bool, k: usize, b: u8) -> State {
         return State::Wrong(Fault::NoQuestion);
     }
     if k < 7 {
-        return State::Question(q, k + 1);
+        return State::Letters(q, k + 1);
     }
     State::Wrong(Fault::NoQuestion)
 }
 
 // The byte after a whole question.
-fn asked(q: bool, b: u8) -> State {
+fn asked(q: Question, b: u8) -> State {
     if text::is_blank(b) {
         return State::Gap(q);
     }
@@ -167,7 +230,7 @@ fn asked(q: bool, b: u8) -> State {
     State::Wrong(Fault::NoQuestion)
 }
 
-fn gap(q: bool, f: Filled, b: u8, name: &mut [u8]) -> Line
+fn gap(q: Question, f: Filled, b: u8, name: &mut [u8]) -> Line
     requires { ⌜ f .name ≤ length (now name) ⌝ }
     ensures { λ r. ⌜ (r .filled .name ≤ length (now (name .entry))) × Same (r .filled) f ⌝ }
 {
@@ -186,7 +249,7 @@ fn gap(q: bool, f: Filled, b: u8, name: &mut [u8]) -> Line
     in_name(q, f, b, name)
 }
 
-fn in_name(q: bool, f: Filled, b: u8, name: &mut [u8]) -> Line
+fn in_name(q: Question, f: Filled, b: u8, name: &mut [u8]) -> Line
     requires { ⌜ f .name ≤ length (now name) ⌝ }
     ensures { λ r. ⌜ (r .filled .name ≤ length (now (name .entry))) × Same (r .filled) f ⌝ }
 {
@@ -197,6 +260,7 @@ fn in_name(q: bool, f: Filled, b: u8, name: &mut [u8]) -> Line
         };
     }
     let n = f.name;
+    let limits = f.limits;
     if n < name.len() {
         name[n] = b;
         return Line {
@@ -206,6 +270,7 @@ fn in_name(q: bool, f: Filled, b: u8, name: &mut [u8]) -> Line
                 words: f.words,
                 heap: f.heap,
                 rest: f.rest,
+                limits,
             },
         };
     }
@@ -215,17 +280,18 @@ fn in_name(q: bool, f: Filled, b: u8, name: &mut [u8]) -> Line
     }
 }
 
-fn bar(q: bool, b: u8) -> State {
+fn bar(q: Question, b: u8) -> State {
     if text::is_blank(b) {
         return State::Bar(q);
     }
     if b != b'|' {
         return State::Wrong(Fault::NoBar);
     }
-    if q {
-        return State::Words(Part::Image);
+    match q {
+        Question::Check => State::Words(Part::Only),
+        Question::Conform => State::Words(Part::Image(false)),
+        Question::Run => State::Words(Part::Image(true)),
     }
-    State::Words(Part::Only)
 }
 
 fn between(p: Part, f: Filled, b: u8) -> Line
@@ -252,28 +318,58 @@ fn next_part(p: Part, f: Filled) -> Line
     requires { ⌜ f .heap ≤ f .rest ⌝ }
     ensures { λ r. ⌜ (r .filled .name ≡ f .name) × (r .filled .words ≡ f .words) × (r .filled .rest ≡ f .rest) × (r .filled .heap ≤ f .rest) ⌝ }
 {
+    let limits = f.limits;
     match p {
-        Part::Image => Line {
-            state: State::Words(Part::Heap),
+        Part::Image(is_run) => Line {
+            state: State::Words(Part::Heap(is_run)),
             filled: f,
         },
-        Part::Heap => Line {
-            state: State::Words(Part::Inputs),
+        Part::Heap(is_run) => Line {
+            state: State::Words(Part::Inputs(is_run)),
             filled: Filled {
                 name: f.name,
                 words: f.words,
                 heap: f.rest,
                 rest: f.rest,
+                limits,
             },
         },
         Part::Only => Line {
             state: State::Wrong(Fault::NoNumber(f.words)),
             filled: f,
         },
-        Part::Inputs => Line {
-            state: State::Wrong(Fault::NoInputNumber(f.rest - f.heap)),
+        Part::Inputs(is_run) => Line {
+            state: after_inputs(is_run, f),
             filled: f,
         },
+        Part::Number(l) => Line {
+            state: State::Wrong(Fault::NoLimit(l)),
+            filled: f,
+        },
+    }
+}
+
+fn after_inputs(is_run: bool, f: Filled) -> State
+    requires { ⌜ f .heap ≤ f .rest ⌝ }
+{
+    if is_run {
+        return State::Words(Part::Number(Limit::Room));
+    }
+    State::Wrong(Fault::NoInputNumber(f.rest - f.heap))
+}
+
+// A byte behind one of the three numbers: each part has one alone, and no bar is behind the last.
+fn given(l: Limit, b: u8) -> State {
+    if text::is_blank(b) {
+        return State::Given(l);
+    }
+    if b != b'|' {
+        return State::Wrong(Fault::NoLimit(l));
+    }
+    match l {
+        Limit::Room => State::Words(Part::Number(Limit::Steps)),
+        Limit::Steps => State::Words(Part::Number(Limit::Depth)),
+        Limit::Depth => State::Wrong(Fault::NoLimit(Limit::Depth)),
     }
 }
 
@@ -293,9 +389,10 @@ fn no_number(p: Part, f: Filled) -> Fault
 {
     match p {
         Part::Only => Fault::NoNumber(f.words),
-        Part::Image => Fault::NoNumber(f.words),
-        Part::Heap => Fault::NoHeapNumber(f.rest),
-        Part::Inputs => Fault::NoInputNumber(f.rest - f.heap),
+        Part::Image(_) => Fault::NoNumber(f.words),
+        Part::Heap(_) => Fault::NoHeapNumber(f.rest),
+        Part::Inputs(_) => Fault::NoInputNumber(f.rest - f.heap),
+        Part::Number(l) => Fault::NoLimit(l),
     }
 }
 
@@ -311,9 +408,10 @@ fn in_word(p: Part, v: u64, f: Filled, b: u8, words: &mut [u32], rest: &mut [u64
     }
     match p {
         Part::Only => put_word(Part::Only, v, f, words),
-        Part::Image => put_word(Part::Image, v, f, words),
-        Part::Heap => put_rest(Part::Heap, v, f, rest),
-        Part::Inputs => put_rest(Part::Inputs, v, f, rest),
+        Part::Image(is_run) => put_word(Part::Image(is_run), v, f, words),
+        Part::Heap(is_run) => put_rest(Part::Heap(is_run), v, f, rest),
+        Part::Inputs(is_run) => put_rest(Part::Inputs(is_run), v, f, rest),
+        Part::Number(l) => put_limit(l, v, f),
     }
 }
 
@@ -328,6 +426,7 @@ fn put_word(p: Part, v: u64, f: Filled, words: &mut [u32]) -> Line
         };
     }
     let k = f.words;
+    let limits = f.limits;
     if k < words.len() {
         words[k] = v as u32;
         return Line {
@@ -337,6 +436,7 @@ fn put_word(p: Part, v: u64, f: Filled, words: &mut [u32]) -> Line
                 words: k + 1,
                 heap: f.heap,
                 rest: f.rest,
+                limits,
             },
         };
     }
@@ -351,6 +451,7 @@ fn put_rest(p: Part, v: u64, f: Filled, rest: &mut [u64]) -> Line
     ensures { λ r. ⌜ (r .filled .name ≡ f .name) × (r .filled .words ≡ f .words) × (r .filled .heap ≤ r .filled .rest) × (r .filled .rest ≤ length (now (rest .entry))) ⌝ }
 {
     let k = f.rest;
+    let limits = f.limits;
     if k < rest.len() {
         rest[k] = v;
         return Line {
@@ -360,11 +461,48 @@ fn put_rest(p: Part, v: u64, f: Filled, rest: &mut [u64]) -> Line
                 words: f.words,
                 heap: f.heap,
                 rest: k + 1,
+                limits,
             },
         };
     }
     Line {
         state: State::Wrong(Fault::ManyRest),
         filled: f,
+    }
+}
+
+fn put_limit(l: Limit, v: u64, f: Filled) -> Line
+    ensures { λ r. ⌜ (r .filled .name ≡ f .name) × Same (r .filled) f ⌝ }
+{
+    let limits = f.limits;
+    Line {
+        state: State::Given(l),
+        filled: Filled {
+            name: f.name,
+            words: f.words,
+            heap: f.heap,
+            rest: f.rest,
+            limits: with_limit(l, v, limits),
+        },
+    }
+}
+
+fn with_limit(l: Limit, v: u64, old: Limits) -> Limits {
+    match l {
+        Limit::Room => Limits {
+            room: v,
+            steps: old.steps,
+            depth: old.depth,
+        },
+        Limit::Steps => Limits {
+            room: old.room,
+            steps: v,
+            depth: old.depth,
+        },
+        Limit::Depth => Limits {
+            room: old.room,
+            steps: old.steps,
+            depth: v,
+        },
     }
 }

@@ -1,10 +1,13 @@
 // Answers cases from standard input, one a line,
 //     check NAME | WORD WORD ..
 //     conform NAME | IMAGE WORD .. | HEAP WORD .. | INPUT ..
-// with one line each on standard output: the name, the number and the place. A line that is no
-// case is answered by what is wrong with it, and the next one is read as ever.
+//     run NAME | IMAGE WORD .. | HEAP WORD .. | INPUT .. | ROOM | STEPS | DEPTH
+// with one line each on standard output: the name, the number and the place. The end of a run has the
+// steps taken, the value and, behind a bar, the heap's words too. A line that is no case is answered
+// by what is wrong with it, and the next one is read as ever.
 mod line;
 mod report;
+mod runs;
 
 ghost use Rattle.answer.specs.Kept.{Within};
 use libc::STDIN_FILENO;
@@ -31,6 +34,7 @@ fn end_line(r: Reader, name: &mut [u8], words: &mut [u32], rest: &mut [u64])
     let state = last.state;
     match state {
         State::Words(p) => answer(r.number, p, f, name, words, rest),
+        State::Given(l) => runs::answer(r.number, l, f, name, words, rest),
         State::Gap(_) => report::wrong(r.number, Fault::NoName),
         State::Bar(_) => report::wrong(r.number, Fault::NoBar),
         State::Wrong(w) => report::wrong(r.number, w),
@@ -45,15 +49,34 @@ fn answer(number: u64, p: Part, f: Filled, name: &[u8], words: &[u32], rest: &[u
     let k = f.words;
     match p {
         Part::Only => report::answer(name, f.name, image_check::check_answer(&words[..k])),
-        Part::Inputs => {
-            let h = f.heap;
-            let r = f.rest;
-            let a = conform::conformity(&words[..k], &rest[..h], &rest[h..r]);
-            report::answer(name, f.name, a);
-        }
-        Part::Image => report::wrong(number, Fault::FewParts),
-        Part::Heap => report::wrong(number, Fault::FewParts),
+        Part::Inputs(is_run) => fit(number, is_run, f, name, words, rest),
+        Part::Image(is_run) => few(number, is_run),
+        Part::Heap(is_run) => few(number, is_run),
+        Part::Number(l) => report::wrong(number, Fault::NoLimit(l)),
     }
+}
+
+fn few(number: u64, is_run: bool) {
+    if is_run {
+        report::wrong(number, Fault::FewRunParts);
+        return;
+    }
+    report::wrong(number, Fault::FewParts);
+}
+
+// Inputs end a case of conformity, and are not all of a run's.
+fn fit(number: u64, is_run: bool, f: Filled, name: &[u8], words: &[u32], rest: &[u64])
+    requires { ⌜ Within f (now name) (now words) (now rest) ⌝ }
+{
+    if is_run {
+        few(number, true);
+        return;
+    }
+    let k = f.words;
+    let h = f.heap;
+    let r = f.rest;
+    let a = conform::conformity(&words[..k], &rest[..h], &rest[h..r]);
+    report::answer(name, f.name, a);
 }
 
 fn turn(s: Reader, b: u8, name: &mut [u8], words: &mut [u32], rest: &mut [u64]) -> Reader

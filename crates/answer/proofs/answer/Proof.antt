@@ -1,8 +1,8 @@
 -- `answer::answer` is safe: the parts of a line are within the lent memory. Assumes nothing.
-use native.Mathlib.Omega.{arith}
-use borrow.Author.Needs.{needs}
-use Rattle.text.proofs.Laws.{counts}
 use Rattle.answer.proofs.answer.Statement.{statement}
+use Rattle.text.proofs.Laws.{counts}
+use borrow.Author.Needs.{needs}
+use native.Mathlib.Omega.{arith}
 use Rattle.answer.proofs.answer.Tie as tie
 
 enum-told : tie.Need-enum-told
@@ -17,44 +17,29 @@ check-answer-requires c κs = search needs
 answer-requires : tie.Need-answer-requires
 answer-requires c κs = (omega arith, counts _ _ (omega arith))
 
-enum-told-2 : tie.Need-enum-told-2
-enum-told-2 c = search needs
+enum-known-p : tie.Need-enum-known-p
+enum-known-p c = search needs
 
-slice-aggregate-conformity : tie.Need-slice-aggregate-conformity
-slice-aggregate-conformity c = counts _ _ (omega arith)
+fit-requires : tie.Need-fit-requires
+fit-requires c κs = search needs
 
-slice-aggregate-conformity-2 : tie.Need-slice-aggregate-conformity-2
-slice-aggregate-conformity-2 c = counts _ _ (omega arith)
+enum-known-p-2 : tie.Need-enum-known-p-2
+enum-known-p-2 c = search needs
 
-mul-conformity : tie.Need-mul-conformity
-mul-conformity c = search needs
+few-requires : tie.Need-few-requires
+few-requires c κs = search needs
 
-sub-conformity : tie.Need-sub-conformity
-sub-conformity c = search needs
+enum-known-p-3 : tie.Need-enum-known-p-3
+enum-known-p-3 c = search needs
 
-part-conformity-start : tie.Need-part-conformity-start
-part-conformity-start c = search needs
+few-requires-2 : tie.Need-few-requires-2
+few-requires-2 c κs = search needs
 
-part-conformity-end : tie.Need-part-conformity-end
-part-conformity-end c = search needs
-
-conformity-requires : tie.Need-conformity-requires
-conformity-requires c κs = search needs
-
-answer-requires-2 : tie.Need-answer-requires-2
-answer-requires-2 c κs = (omega arith, counts _ _ (omega arith))
-
-enum-told-3 : tie.Need-enum-told-3
-enum-told-3 c = search needs
+enum-known-p-4 : tie.Need-enum-known-p-4
+enum-known-p-4 c = search needs
 
 wrong-requires : tie.Need-wrong-requires
 wrong-requires c κs = search needs
-
-enum-told-4 : tie.Need-enum-told-4
-enum-told-4 c = search needs
-
-wrong-requires-2 : tie.Need-wrong-requires-2
-wrong-requires-2 c κs = search needs
 
 returns : tie.Need-returns
 returns c = search needs
@@ -68,6 +53,9 @@ returns-3 c = search needs
 returns-4 : tie.Need-returns-4
 returns-4 c = search needs
 
+returns-5 : tie.Need-returns-5
+returns-5 c = search needs
+
 pub answer-spec : {M : Type 1} → statement M
 answer-spec =
     tie.close
@@ -76,20 +64,16 @@ answer-spec =
     slice-aggregate-check-answer
     check-answer-requires
     answer-requires
-    enum-told-2
-    slice-aggregate-conformity
-    slice-aggregate-conformity-2
-    mul-conformity
-    sub-conformity
-    part-conformity-start
-    part-conformity-end
-    conformity-requires
-    answer-requires-2
-    enum-told-3
+    enum-known-p
+    fit-requires
+    enum-known-p-2
+    few-requires
+    enum-known-p-3
+    few-requires-2
+    enum-known-p-4
     wrong-requires
-    enum-told-4
-    wrong-requires-2
     returns
     returns-2
     returns-3
-    returns-4)
+    returns-4
+    returns-5)

@@ -1,9 +1,9 @@
 -- `answer::read_all` is safe and ends. The measure is the number of turns that are left. Assumes nothing.
-use mathlib.Core.Path.{_≡_}
-use lib.ListN.{length}
-use borrow.Author.Needs.{needs}
-use Rattle.answer.specs.Kept.{Within}
 use Rattle.answer.proofs.read_all.Statement.{statement}
+use Rattle.answer.specs.Kept.{Within}
+use borrow.Author.Needs.{needs}
+use lib.ListN.{length}
+use mathlib.Core.Path.{_≡_}
 use Rattle.answer.proofs.read_all.Tie as tie
 
 abbrev Inv-loop : tie.InvT-loop

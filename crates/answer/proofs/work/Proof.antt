@@ -1,10 +1,10 @@
 -- `answer::work` keeps the line within the lent memory. The measure is what is left of the piece. Assumes nothing.
-use mathlib.Core.Path.{_≡_}
-use Prim.Native.Nat.{_≤_, _-_}
-use lib.ListN.{length}
-use borrow.Author.Needs.{needs}
-use Rattle.answer.specs.Kept.{Within}
+use Prim.Native.Nat.{_-_, _≤_}
 use Rattle.answer.proofs.work.Statement.{statement}
+use Rattle.answer.specs.Kept.{Within}
+use borrow.Author.Needs.{needs}
+use lib.ListN.{length}
+use mathlib.Core.Path.{_≡_}
 use Rattle.answer.proofs.work.Tie as tie
 
 abbrev Inv-loop : tie.InvT-loop
