@@ -57,6 +57,20 @@ pub fn show() {
     let words = EXAMPLE;
     sections(&words);
     say::answer(image_check::check_answer(&words));
+    say::text(b"and its run, on a heap of four slots, at most 100 steps and 8 levels deep:\n");
+    run_example(&words);
+}
+
+// The heap holds the three system objects and a free slot. Main takes no inputs.
+fn run_example(ws: &[u32]) {
+    let mut heap = [0u64; 64];
+    heap[0] = 2;
+    heap[16] = 3;
+    heap[32] = 4;
+    let none: [u64; 0] = [];
+    let mut room = [0u64; 288];
+    let ran = run::run(ws, &mut heap, &none, &mut room, 100, 8);
+    say::ran(run::numbers_of(ran));
 }
 
 fn sections(ws: &[u32; 38]) {

@@ -6,9 +6,9 @@ ghost use Rattle.text.specs.Words.{Counts};
 use crate::say;
 
 // How many bytes or words are at the start of a buffer, and whether an error was written instead.
-struct Taken {
-    count: usize,
-    has_failed: bool,
+pub struct Taken {
+    pub count: usize,
+    pub has_failed: bool,
 }
 
 pub fn check(path: &[u8]) {
@@ -51,13 +51,13 @@ fn image_space() -> [u8; 524289]
     [0; 524289]
 }
 
-fn heap_space() -> [u8; 1048577]
+pub fn heap_space() -> [u8; 1048577]
     ensures { λ r. ⌜ 1048577 ≡ length r ⌝ }
 {
     [0; 1048577]
 }
 
-fn take_image(path: &[u8], words: &mut [u32]) -> Taken
+pub fn take_image(path: &[u8], words: &mut [u32]) -> Taken
     ensures { λ r. ⌜ Counts (r .count) (now (words .exit)) ⌝ }
 {
     let mut space = image_space();
@@ -68,7 +68,7 @@ fn take_image(path: &[u8], words: &mut [u32]) -> Taken
     }
 }
 
-fn take_heap(path: &[u8], words: &mut [u64]) -> Taken
+pub fn take_heap(path: &[u8], words: &mut [u64]) -> Taken
     ensures { λ r. ⌜ Counts (r .count) (now (words .exit)) ⌝ }
 {
     let mut space = heap_space();
@@ -79,7 +79,7 @@ fn take_heap(path: &[u8], words: &mut [u64]) -> Taken
     }
 }
 
-fn take_inputs(path: &[u8], words: &mut [u64]) -> Taken
+pub fn take_inputs(path: &[u8], words: &mut [u64]) -> Taken
     ensures { λ r. ⌜ Counts (r .count) (now (words .exit)) ⌝ }
 {
     let mut space = [0u8; 8193];

@@ -1,6 +1,9 @@
 // What the tool writes: answers with their meaning, and errors.
 use libc::STDOUT_FILENO;
 use order::Answer;
+use run::Told;
+use words::Decoded;
+use words::Value;
 
 pub fn text(words: &[u8]) {
     io::write_all(STDOUT_FILENO, words);
@@ -11,7 +14,9 @@ pub fn number(n: u64) {
 }
 
 pub fn usage() {
-    text(b"error: the arguments are: check FILE, or conform IMAGE HEAP INPUTS, or demo\n");
+    text(
+        b"error: the arguments are: check FILE, or conform IMAGE HEAP INPUTS, or run IMAGE HEAP INPUTS STEPS DEPTH [OUT], or demo\n",
+    );
 }
 
 // A file that gives no words.
@@ -55,12 +60,73 @@ pub fn conformity(a: Answer) {
     meaning(a, b"the heap and the inputs conform to the image");
 }
 
-fn numbers(a: Answer) {
-    text(b"number ");
-    number(a.number);
-    text(b" place ");
-    number(a.place);
+pub fn ran(t: Told) {
+    number_and_place(t.number, t.place);
+    text(b" count ");
+    number(t.count);
+    text(b" value ");
+    if has_value(t.number) {
+        number(t.value);
+    } else {
+        text(b"-");
+    }
     text(b"\n");
+    subject(t.number, t.place);
+    rule(t.number);
+    if has_value(t.number) {
+        word(t.value);
+    }
+    text(b"\n");
+}
+
+fn has_value(n: u64) -> bool {
+    n == 30 || n == 31
+}
+
+fn word(w: u64) {
+    match words::value_of(w) {
+        Decoded::Is(v) => value(v),
+        Decoded::Not => text(b"what is no value"),
+    }
+}
+
+fn value(v: Value) {
+    match v {
+        Value::Unit => text(b"Unit"),
+        Value::Null => text(b"Null"),
+        Value::Bool(b) => boolean(b),
+        Value::Intg(i) => integer(i),
+        Value::Addr(a) => at(b"address ", a as u64),
+    }
+}
+
+fn boolean(b: bool) {
+    if b {
+        text(b"true");
+    } else {
+        text(b"false");
+    }
+}
+
+// An integer is 32 bits, of which the highest counts as negative.
+fn integer(i: u32) {
+    if i < 2147483648 {
+        at(b"the integer ", i as u64);
+    } else {
+        at(b"the integer -", 4294967296 - i as u64);
+    }
+}
+
+fn numbers(a: Answer) {
+    number_and_place(a.number, a.place);
+    text(b"\n");
+}
+
+fn number_and_place(n: u64, place: u64) {
+    text(b"number ");
+    number(n);
+    text(b" place ");
+    number(place);
 }
 
 // One line. What 0 means depends on the question.
@@ -91,6 +157,12 @@ fn subject(n: u64, place: u64) {
         14 => text(b"the heap's length"),
         15 | 17 => at(b"heap word ", place),
         16 | 18 => at(b"input ", place),
+        19 => text(b"the depth limit"),
+        20 => text(b"the room"),
+        30 => text(b"main returned "),
+        31 => text(b"main threw "),
+        32 | 33 => text(b"the run was cut short: "),
+        34 => at(b"the run is stuck at node ", place),
         _ => text(b"this number has no meaning here"),
     }
 }
@@ -144,6 +216,13 @@ fn rule(n: u64) {
             b" does not conform: slots 0, 1 and 2 hold objects of classes 1, 2 and 3, and the value of a field is one of the field's type",
         ),
         18 => text(b" does not conform: its value is one of the type that main declares for it"),
+        19 => text(b" is broken: it is 1 to 1024"),
+        20 => text(b" is too short: 16 words for each level of the depth limit, and 160 more"),
+        30 => {}
+        31 => text(b"the object at "),
+        32 => text(b"as many steps as the limit allows were taken, and one more could be"),
+        33 => text(b"the next step lies deeper than the depth limit allows"),
+        34 => text(b": no step can be taken there"),
         _ => {}
     }
 }

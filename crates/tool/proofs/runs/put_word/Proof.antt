@@ -1,0 +1,56 @@
+-- `tool::runs::put_word` is safe and ends. The measure is what is left of the eight bytes. Assumes nothing.
+use Prim.Native.Nat.{_+_, _-_, _≤_}
+use Rattle.tool.proofs.runs.put_word.Statement.{statement}
+use borrow.Author.Needs.{needs}
+use lib.ListN.{length}
+use mathlib.Core.Path.{_≡_}
+use Rattle.tool.proofs.runs.put_word.Tie as tie
+
+abbrev Inv-loop : tie.InvT-loop
+Inv-loop w out₀ at rest₀ i₀ out rest i = (length out ≡ length out₀) × (at + 8 ≤ length out₀)
+
+abbrev μ-loop : tie.MeasureT-loop
+μ-loop w out₀ at rest₀ i₀ out rest i = 8 - i
+
+loop-holds : tie.Need-loop-holds Inv-loop μ-loop
+loop-holds c = search needs
+
+cast-out : tie.Need-cast-out Inv-loop μ-loop
+cast-out c = search needs
+
+add-out : tie.Need-add-out Inv-loop μ-loop
+add-out c = search needs
+
+slice-write-out : tie.Need-slice-write-out Inv-loop μ-loop
+slice-write-out c = search needs
+
+add-i : tie.Need-add-i Inv-loop μ-loop
+add-i c = search needs
+
+loop-less : tie.Need-loop-less Inv-loop μ-loop
+loop-less c = search needs
+
+loop-again : tie.Need-loop-again Inv-loop μ-loop
+loop-again c = search needs
+
+same-length : tie.Need-same-length Inv-loop μ-loop
+same-length c = search needs
+
+returns : tie.Need-returns Inv-loop μ-loop
+returns c = search needs
+
+pub put-word-spec : {M : Type 1} → statement M
+put-word-spec =
+    tie.close
+    (tie.spec
+    Inv-loop
+    μ-loop
+    loop-holds
+    cast-out
+    add-out
+    slice-write-out
+    add-i
+    loop-less
+    loop-again
+    same-length
+    returns)
