@@ -31,15 +31,23 @@ fn same<T: PartialEq + std::fmt::Debug>(name: &str, what: &str, library: T, pape
     assert!(library == paper, "{name}: {what}: the library has {library:?}, the paper {paper:?}");
 }
 
-fn compare_run(name: &str, case: &Case) -> Told {
+// The library's answer to the run, and the heap afterwards. The room is looked at here: all 0 after an end, untouched at a refusal.
+fn ask_run(name: &str, case: &Case) -> (Told, Vec<u64>) {
     let lent: Vec<u64> = (0..case.room as u64).map(|i| i.wrapping_mul(0x9e37_79b9_7f4a_7c15) | 1).collect();
     let (mut heap, mut room) = (guarded(&case.heap), guarded(&lent));
-    let a = words(numbers::run(&case.image, inside(&mut heap), &case.inputs, inside(&mut room), case.steps, case.depth));
-    let (told, after) = paper::run(&case.image, &case.heap, &case.inputs, case.room, case.steps, case.depth);
-    same(name, "run", a, told);
-    assert!(heap == guarded(&after), "{name}: the heap after the run differs");
+    let told = words(numbers::run(&case.image, inside(&mut heap), &case.inputs, inside(&mut room), case.steps, case.depth));
     let left = if told.0 >= 30 { vec![0; case.room] } else { lent };
-    assert!(room == guarded(&left), "{name}: the room after the run differs");
+    assert!(room == guarded(&left), "{name}: the room after the run is wrong");
+    let after = inside(&mut heap).to_vec();
+    assert!(heap == guarded(&after), "{name}: words beside the heap were written");
+    (told, after)
+}
+
+fn compare_run(name: &str, case: &Case) -> Told {
+    let (told, after) = paper::run(&case.image, &case.heap, &case.inputs, case.room, case.steps, case.depth);
+    let (library, left) = ask_run(name, case);
+    same(name, "run", library, told);
+    assert!(left == after, "{name}: the heap after the run differs");
     told
 }
 
@@ -61,12 +69,11 @@ fn count(counts: &mut Counts, question: usize, told: Told) {
     counts.entry(told.0).or_default()[question] += 1;
 }
 
-fn print(counts: &Counts, steps: u64) {
+fn print(counts: &Counts) {
     println!("number    check  conform      run");
     for (number, [check, conform, run]) in counts {
         println!("{number:>6} {check:>8} {conform:>8} {run:>8}");
     }
-    println!("steps of all runs: {steps}");
 }
 
 // A tree may be 4,096 deep, on both sides.
@@ -77,7 +84,7 @@ fn with_stack(test: fn()) {
 #[test]
 fn the_library_agrees_with_the_paper() {
     with_stack(|| {
-        let (mut counts, mut steps, mut stuck) = (Counts::new(), 0, 0);
+        let (mut counts, mut steps, mut longest, mut safe, mut stuck) = (Counts::new(), 0, 0, 0, 0);
         for number in 0..CASES {
             let (name, case) = (format!("case {number}"), generator::case(number));
             let check = compare_check(&name, &case);
@@ -85,9 +92,13 @@ fn the_library_agrees_with_the_paper() {
             let run = compare_run(&name, &case);
             [check, conform, run].into_iter().enumerate().for_each(|(q, told)| count(&mut counts, q, told));
             steps += run.2;
-            stuck += (check.0 == 0 && conform.0 == 0 && run.0 == 34) as u64;
+            longest = longest.max(run.2);
+            let accepted = check.0 == 0 && conform.0 == 0 && run.0 >= 30;
+            safe += accepted as u64;
+            stuck += (accepted && run.0 == 34) as u64;
         }
-        print(&counts, steps);
+        print(&counts);
+        println!("steps of all runs: {steps}, of the longest: {longest}; runs of what check and conform accepted: {safe}");
         assert_eq!(stuck, 0, "a run of what check and conform accepted was stuck");
         for number in (0..=20).chain(30..=34) {
             assert!(counts.contains_key(&number), "no case gave {number}");
@@ -110,34 +121,45 @@ fn given(line: &str) -> (String, String, Case) {
     (question.to_string(), name.to_string(), case)
 }
 
-// The answer as the line of the file of answers has it.
-fn line_of(name: &str, question: &str, told: Told, case: &Case) -> String {
-    let (number, place, count, value) = told;
-    if question != "run" || number < 30 {
+// The run's answer as the line of the file of answers has it.
+fn run_line(name: &str, (number, place, count, value): Told, heap: &[u64]) -> String {
+    if number < 30 {
         return format!("{name} {number} {place}");
     }
     let value = if number <= 31 { value.to_string() } else { "-".to_string() };
-    let (_, heap) = paper::run(&case.image, &case.heap, &case.inputs, case.room, case.steps, case.depth);
     let heap: Vec<String> = heap.iter().map(|w| w.to_string()).collect();
     format!("{name} {number} {place} {count} {value} | {}", heap.join(" "))
 }
 
-fn compare_file(cases: &str, answers: &str) -> usize {
-    let lines = cases.lines().filter(|l| !l.trim().is_empty() && !l.starts_with('#'));
-    let mut answers = answers.lines().filter(|l| !l.trim().is_empty() && !l.starts_with('#'));
-    let mut asked = 0;
-    for line in lines {
-        let (question, name, case) = given(line);
-        let told = match question.as_str() {
-            "check" => compare_check(&name, &case),
-            "conform" => compare_conform(&name, &case),
-            _ => compare_run(&name, &case),
-        };
-        let answer = answers.next().expect("an answer for each case").trim().to_string();
-        same(&name, "given answer", line_of(&name, &question, told, &case), answer);
-        asked += 1;
+// The longest run that the paper is asked for too: it rewrites the whole way from the root at every step.
+const LONG: u64 = 20_000;
+
+fn compare_given(question: &str, name: &str, case: &Case) -> String {
+    let line = |(number, place, ..): Told| format!("{name} {number} {place}");
+    match question {
+        "check" => line(compare_check(name, case)),
+        "conform" => line(compare_conform(name, case)),
+        _ => {
+            let (told, heap) = ask_run(name, case);
+            if told.2 <= LONG {
+                compare_run(name, case);
+            }
+            run_line(name, told, &heap)
+        }
     }
-    asked
+}
+
+fn compare_file(cases: &str, answers: &str) -> usize {
+    let asked = cases.lines().filter(|l| !l.trim().is_empty());
+    let given_answers: Vec<&str> = answers.lines().filter(|l| !l.trim().is_empty()).collect();
+    let mut count = 0;
+    for line in asked {
+        let (question, name, case) = given(line);
+        same(&name, "given answer", compare_given(&question, &name, &case).as_str(), given_answers[count].trim());
+        count += 1;
+    }
+    assert_eq!(count, given_answers.len(), "an answer for each case");
+    count
 }
 
 #[test]

@@ -55,7 +55,7 @@ fn value(dice: &mut Dice, heap: &[Option<usize>], program: &Program, t: u32) -> 
 
 // A heap that conforms: the three system objects, then objects of any class and free slots.
 fn heap(dice: &mut Dice, program: &Program) -> (Vec<Option<usize>>, Vec<u64>) {
-    let more = dice.of(&[0, 1, 1, 2, 3, 5, 9]);
+    let more = dice.of(&[0, 1, 2, 3, 5, 9, 20, 40]);
     let slots: Vec<Option<usize>> = (0..3 + more)
         .map(|s| if s < 3 { Some(s + 1) } else if dice.one_in(2) { Some(dice.below(program.classes.len())) } else { None })
         .collect();
@@ -76,8 +76,8 @@ fn heap(dice: &mut Dice, program: &Program) -> (Vec<Option<usize>>, Vec<u64>) {
 fn sound(dice: &mut Dice, program: &Program) -> Case {
     let (slots, heap) = heap(dice, program);
     let inputs = program.inputs.iter().map(|&t| value(dice, &slots, program, t)).collect();
-    let depth = dice.of(&[1, 2, 3, 4, 6, 8, 12, 20, 40, 100, 300, 1024]);
-    let steps = dice.of(&[0, 1, 2, 3, 5, 8, 13, 30, 100, 400, 1500, 1500]);
+    let depth = dice.of(&[1, 2, 3, 4, 6, 8, 12, 20, 40, 100, 100, 300, 300, 1024, 1024]);
+    let steps = dice.of(&[0, 1, 2, 3, 5, 8, 13, 30, 100, 400, 400, 1500, 1500, 1500, 6000]);
     let spare = dice.of(&[0, 0, 1, 17, 300]);
     Case { image: program.words(), heap, inputs, room: 16 * depth as usize + 160 + spare, steps, depth }
 }
@@ -118,18 +118,19 @@ fn loosen(dice: &mut Dice, case: &mut Case) {
         return;
     }
     let slot = 16 * dice.below(case.heap.len() / 16);
-    if dice.one_in(3) {
+    let at = slot + 1 + dice.below(3);
+    if dice.one_in(4) {
         case.heap[slot..slot + 16].fill(0);
         case.heap[slot] = if dice.one_in(2) { 0 } else { dice.below(6) as u64 };
-    } else {
-        case.heap[slot + 1 + dice.below(4)] = word;
+    } else if case.heap[at] != 0 || dice.one_in(8) {
+        case.heap[at] = word;
     }
 }
 
 fn damage_limits(dice: &mut Dice, case: &mut Case) {
     match dice.below(6) {
         0 => case.depth = dice.of(&[0, 1025, (1 << 32) + 8, u64::MAX]),
-        1 => case.room = (16 * case.depth as usize + 160) - dice.of(&[1, 2, 16, 160]),
+        1 => case.room = (16 * case.depth.min(1024) as usize + 160) - dice.of(&[1, 2, 16, 160]),
         2 => case.room = dice.of(&[0, 1, 159, 160, 176]),
         3 => case.steps = changed(dice, case.steps, 13) % 5000,
         4 => case.depth = changed(dice, case.depth, 64),
