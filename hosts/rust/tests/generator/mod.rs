@@ -155,7 +155,8 @@ pub fn case(number: u64) -> Case {
         return ceilings::case(&mut dice);
     }
     let program = match number % 5 {
-        0 | 1 | 2 => Program::typed(&mut dice),
+        0 | 1 => Program::typed(&mut dice),
+        2 => Program::looped(&mut dice),
         3 => Program::loose(&mut dice),
         _ => Program::shaped(&mut dice),
     };

@@ -164,6 +164,21 @@ impl Program {
         Program::tables(dice).filled(dice, |p, dice, _, _, fuel| p.shape(dice, fuel))
     }
 
+    pub fn looped(dice: &mut Dice) -> Program {
+        Program::tables(dice).filled(dice, Program::repeated)
+    }
+
+    // A loop that counts, then an expression of this type: long runs.
+    fn repeated(&mut self, dice: &mut Dice, locals: &mut Vec<Local>, want: u32, fuel: usize) {
+        let start = self.nodes.len();
+        locals.push(Local(40, INTEGER, false));
+        self.count_up(dice, locals, 40, 2 * fuel);
+        self.expression(dice, locals, want, fuel / 2);
+        self.node(start, 11, 0, 0);
+        locals.pop();
+        self.node(start, 10, 40, INTEGER);
+    }
+
     // An expression of exactly this type, but for a slip now and then.
     fn expression(&mut self, dice: &mut Dice, locals: &mut Vec<Local>, want: u32, fuel: usize) {
         let want = if dice.one_in(300) { self.any_type(dice) } else { want };
@@ -257,7 +272,7 @@ impl Program {
         self.node(test, 5, 0, 0);
         let body = self.nodes.len();
         let t = self.any_type(dice);
-        self.expression(dice, locals, t, fuel);
+        if dice.one_in(2) { self.attempt(dice, locals, t, fuel) } else { self.expression(dice, locals, t, fuel) }
         let next = self.nodes.len();
         self.node(next, 3, v, 0);
         self.node(next + 1, 2, 3, 1);
