@@ -21,6 +21,8 @@ pub struct Program {
     methods: Vec<Method>,
     nodes: Vec<[u32; 4]>,
     pub inputs: Vec<u32>,
+    // one in so many variables is read without a look whether it is set
+    care: usize,
 }
 
 // A variable in sight: its number, its type, and whether it is set for sure.
@@ -83,7 +85,10 @@ impl Program {
     }
 
     fn tables(dice: &mut Dice) -> Program {
-        let mut p = Program { classes: vec![0; 4], fields: vec![], methods: vec![], nodes: vec![], inputs: vec![] };
+        let mut p = Program { classes: vec![0; 4], fields: vec![], methods: vec![], nodes: vec![], inputs: vec![], care: 60 };
+        if dice.one_in(4) {
+            p.care = 2;
+        }
         for c in 4..4 + dice.of(&[0, 1, 1, 2, 3, 4, 5]) {
             let above = if dice.one_in(2) { c - 1 } else { dice.below(c) };
             p.classes.push(above);
@@ -212,7 +217,7 @@ impl Program {
 
     fn leaf(&mut self, dice: &mut Dice, locals: &mut [Local], want: u32) {
         let start = self.nodes.len();
-        let slip = dice.one_in(60);
+        let slip = dice.one_in(self.care);
         let fits: Vec<u32> = locals
             .iter()
             .enumerate()
