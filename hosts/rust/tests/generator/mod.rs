@@ -154,10 +154,11 @@ pub fn case(number: u64) -> Case {
     if number % 100 == 99 {
         return ceilings::case(&mut dice);
     }
-    let program = match number % 5 {
+    let program = match number % 6 {
         0 | 1 => Program::typed(&mut dice),
         2 => Program::looped(&mut dice),
         3 => Program::loose(&mut dice),
+        4 => Program::settled(&mut dice),
         _ => Program::shaped(&mut dice),
     };
     let mut case = sound(&mut dice, &program);

@@ -169,6 +169,60 @@ impl Program {
         Program::tables(dice).filled(dice, |p, dice, _, _, fuel| p.shape(dice, fuel))
     }
 
+    pub fn settled(dice: &mut Dice) -> Program {
+        let mut program = Program::tables(dice);
+        program.methods.clear();
+        program.filled(dice, |p, dice, _, _, fuel| {
+            let start = p.nodes.len();
+            p.settle(dice, 0, fuel);
+            (1..4).for_each(|v| p.node(start, 10, v, INTEGER));
+        })
+    }
+
+    // An Integer over the Integer variables 1 to 3, seldom read: typed, and a question of what is set. In a Try's second part its variable
+    // is hidden, being none then.
+    fn settle(&mut self, dice: &mut Dice, hidden: u32, fuel: usize) {
+        let start = self.nodes.len();
+        let v = 1 + dice.below(3) as u32;
+        let shown = hidden >> v & 1 == 0;
+        let choice = if fuel == 0 { dice.below(2) } else { 2 + dice.below(8) };
+        match choice {
+            0 if shown => return self.node(start, 3, v, 0),
+            2 | 3 if shown => {
+                self.settle(dice, hidden, fuel / 3);
+                return self.node(start, 6, v, 0);
+            }
+            4 => {
+                self.node(start, 2, 2, dice.below(2) as u32);
+                self.settle(dice, hidden, fuel / 2);
+                self.settle(dice, hidden, fuel / 2);
+                return self.node(start, 12, 0, 0);
+            }
+            5 => {
+                self.settle(dice, hidden, fuel / 2);
+                return self.node(start, 10, v, INTEGER);
+            }
+            6 => {
+                self.settle(dice, hidden, fuel / 2);
+                self.settle(dice, hidden | 1 << v, fuel / 2);
+                return self.node(start, 15, 0, v);
+            }
+            7 if dice.one_in(3) => {
+                self.node(start, 0, 0, 0);
+                return self.node(start, 14, INTEGER, 0);
+            }
+            0..=3 => return self.node(start, 2, 3, v),
+            8 => {
+                self.node(start, 2, 2, 0);
+                self.settle(dice, hidden, fuel / 2);
+                self.node(start, 13, 0, 0);
+            }
+            _ => self.settle(dice, hidden, fuel / 2),
+        }
+        self.settle(dice, hidden, fuel / 2);
+        self.node(start, 11, 0, 0);
+    }
+
     pub fn looped(dice: &mut Dice) -> Program {
         Program::tables(dice).filled(dice, Program::repeated)
     }
@@ -393,7 +447,8 @@ impl Program {
     // Any node over any operands: only the layout is kept.
     fn anything(&mut self, dice: &mut Dice, fuel: usize) {
         let start = self.nodes.len();
-        let kind = if fuel == 0 { dice.of(&[0, 2, 2, 3, 3]) } else { dice.of(&[1, 4, 5, 6, 6, 7, 8, 9, 9, 10, 10, 11, 11, 12, 13, 14, 15, 2, 3]) };
+        let kinds = [1, 4, 5, 6, 6, 7, 8, 9, 9, 10, 10, 11, 11, 12, 13, 14, 15, 2, 3];
+        let kind = if fuel == 0 { dice.of(&[0, 2, 2, 3, 3]) } else { dice.of(&kinds) };
         let class = if dice.one_in(2) { self.classes.len() - 1 } else { dice.below(self.classes.len()) } as u32;
         let (v, name, t) = (dice.below(4) as u32, 7 + dice.below(5) as u32, self.any_type(dice));
         let (x, y, parts) = match kind {
