@@ -8,7 +8,8 @@
 //!   Rust's has 2 MiB unless told otherwise: give one that checks images of strangers 8 MiB (`std::thread::Builder::stack_size`).
 //! - Only after `check` and `conform` accepted is a run kept from ending stuck, and only with the very image, heap and inputs that they
 //!   saw. `run` asks neither for types nor for initialized variables.
-//! - An end leaves a heap that conforms if it did before. A host that writes into the heap itself asks `conform` again.
+//! - After such a run the heap conforms again. Before the next one, a host asks `conform` about the new inputs, and about what it wrote
+//!   into the heap itself.
 //! - The room is the host's to lend, [`room_words`] of it. It may hold any words; an end leaves every word of it 0.
 
 /// What `check` and `conform` answer.
