@@ -25,7 +25,14 @@ struct Reader {
 }
 
 // The end of a line counts as a blank first, which ends the name or the word before it.
-fn end_line(r: Reader, name: &mut [u8], words: &mut [u32], rest: &mut [u64])
+fn end_line(
+    r: Reader,
+    name: &mut [u8],
+    words: &mut [u32],
+    rest: &mut [u64],
+    inputs: &mut [u64],
+    room: &mut [u64],
+)
     requires { ⌜ Within (r .line .filled) (now name) (now words) (now rest) ⌝ }
 {
     let line = r.line;
@@ -34,7 +41,7 @@ fn end_line(r: Reader, name: &mut [u8], words: &mut [u32], rest: &mut [u64])
     let state = last.state;
     match state {
         State::Words(p) => answer(r.number, p, f, name, words, rest),
-        State::Given(l) => runs::answer(r.number, l, f, name, words, rest),
+        State::Given(l) => runs::answer(r.number, l, f, name, words, rest, inputs, room),
         State::Gap(_) => report::wrong(r.number, Fault::NoName),
         State::Bar(_) => report::wrong(r.number, Fault::NoBar),
         State::Wrong(w) => report::wrong(r.number, w),
@@ -79,12 +86,20 @@ fn fit(number: u64, is_run: bool, f: Filled, name: &[u8], words: &[u32], rest: &
     report::answer(name, f.name, a);
 }
 
-fn turn(s: Reader, b: u8, name: &mut [u8], words: &mut [u32], rest: &mut [u64]) -> Reader
+fn turn(
+    s: Reader,
+    b: u8,
+    name: &mut [u8],
+    words: &mut [u32],
+    rest: &mut [u64],
+    inputs: &mut [u64],
+    room: &mut [u64],
+) -> Reader
     requires { ⌜ Within (s .line .filled) (now name) (now words) (now rest) ⌝ }
     ensures { λ r. ⌜ Within (r .line .filled) (now (name .entry)) (now (words .entry)) (now (rest .entry)) ⌝ }
 {
     if b == b'\n' {
-        end_line(s, name, words, rest);
+        end_line(s, name, words, rest, inputs, room);
         return Reader {
             line: line::empty(),
             number: std::num::wrapping_add_u64(s.number, 1),
@@ -100,21 +115,36 @@ fn turn(s: Reader, b: u8, name: &mut [u8], words: &mut [u32], rest: &mut [u64]) 
     }
 }
 
-fn work(start: Reader, piece: &[u8], name: &mut [u8], words: &mut [u32], rest: &mut [u64]) -> Reader
+fn work(
+    start: Reader,
+    piece: &[u8],
+    name: &mut [u8],
+    words: &mut [u32],
+    rest: &mut [u64],
+    inputs: &mut [u64],
+    room: &mut [u64],
+) -> Reader
     requires { ⌜ Within (start .line .filled) (now name) (now words) (now rest) ⌝ }
     ensures { λ r. ⌜ Within (r .line .filled) (now (name .entry)) (now (words .entry)) (now (rest .entry)) ⌝ }
 {
     let mut r = start;
     let mut i = 0;
     while i < piece.len() {
-        r = turn(r, piece[i], name, words, rest);
+        r = turn(r, piece[i], name, words, rest, inputs, room);
         i += 1;
     }
     r
 }
 
 // Reads once, and works on what came.
-fn read_some(s: Reader, name: &mut [u8], words: &mut [u32], rest: &mut [u64]) -> Reader
+fn read_some(
+    s: Reader,
+    name: &mut [u8],
+    words: &mut [u32],
+    rest: &mut [u64],
+    inputs: &mut [u64],
+    room: &mut [u64],
+) -> Reader
     requires { ⌜ Within (s .line .filled) (now name) (now words) (now rest) ⌝ }
     ensures { λ r. ⌜ Within (r .line .filled) (now (name .entry)) (now (words .entry)) (now (rest .entry)) ⌝ }
 {
@@ -136,12 +166,18 @@ fn read_some(s: Reader, name: &mut [u8], words: &mut [u32], rest: &mut [u64]) ->
         };
     }
     let n = io::count(got, &piece);
-    work(s, &piece[..n], name, words, rest)
+    work(s, &piece[..n], name, words, rest, inputs, room)
 }
 
 // A proved loop has to end, and nothing says that the input does: the turns count down from a number
 // that no run uses up. The last line may lack its end.
-fn read_all(name: &mut [u8], words: &mut [u32], rest: &mut [u64]) {
+fn read_all(
+    name: &mut [u8],
+    words: &mut [u32],
+    rest: &mut [u64],
+    inputs: &mut [u64],
+    room: &mut [u64],
+) {
     let mut r = Reader {
         line: line::empty(),
         number: 1,
@@ -149,15 +185,17 @@ fn read_all(name: &mut [u8], words: &mut [u32], rest: &mut [u64]) {
     };
     let mut turns = u64::MAX;
     while turns > 0 && r.is_open {
-        r = read_some(r, name, words, rest);
+        r = read_some(r, name, words, rest, inputs, room);
         turns -= 1;
     }
-    end_line(r, name, words, rest);
+    end_line(r, name, words, rest, inputs, room);
 }
 
 fn main() {
     let mut name = [0u8; 64];
     let mut words = [0u32; 131072];
     let mut rest = [0u64; 131072];
-    read_all(&mut name, &mut words, &mut rest);
+    let mut inputs = [0u64; 131072];
+    let mut room = [0u64; 131072];
+    read_all(&mut name, &mut words, &mut rest, &mut inputs, &mut room);
 }

@@ -1,6 +1,4 @@
-// The answer to a run. Its heap is written where the line's words are, and its room is lent from here.
-ghost use mathlib.Core.Path.{_≡_};
-ghost use lib.ListN.{length};
+// The answer to a run. Its heap is written where the line's words are; inputs and room are lent too.
 ghost use Rattle.text.specs.Words.{Counts};
 ghost use Rattle.answer.specs.Kept.{Within};
 use crate::line::Filled;
@@ -8,40 +6,46 @@ use crate::report;
 use crate::report::Fault;
 use crate::report::Limit;
 
-const SPACE: u64 = 131072;
-
-// The contract spares the prover to count the zeros.
-fn space() -> [u64; 131072]
-    ensures { λ r. ⌜ 131072 ≡ length r ⌝ }
-{
-    [0; 131072]
-}
-
 // A line that ends behind one of its three numbers.
-pub fn answer(number: u64, l: Limit, f: Filled, name: &[u8], words: &[u32], rest: &mut [u64])
+pub fn answer(
+    number: u64,
+    l: Limit,
+    f: Filled,
+    name: &[u8],
+    words: &[u32],
+    rest: &mut [u64],
+    inputs: &mut [u64],
+    room: &mut [u64],
+)
     requires { ⌜ Within f (now name) (now words) (now rest) ⌝ }
 {
     match l {
         Limit::Room => report::wrong(number, Fault::FewRunParts),
         Limit::Steps => report::wrong(number, Fault::FewRunParts),
-        Limit::Depth => whole(number, f, name, words, rest),
+        Limit::Depth => whole(number, f, name, words, rest, inputs, room),
     }
 }
 
-fn whole(number: u64, f: Filled, name: &[u8], words: &[u32], rest: &mut [u64])
+fn whole(
+    number: u64,
+    f: Filled,
+    name: &[u8],
+    words: &[u32],
+    rest: &mut [u64],
+    inputs: &mut [u64],
+    room: &mut [u64],
+)
     requires { ⌜ Within f (now name) (now words) (now rest) ⌝ }
 {
     let limits = f.limits;
-    if SPACE < limits.room {
+    if (room.len() as u64) < limits.room {
         report::wrong(number, Fault::ManyRoom);
         return;
     }
     let k = f.words;
     let h = f.heap;
     let r = f.rest;
-    let mut inputs = space();
-    let n = copy(&rest[h..r], &mut inputs);
-    let mut room = space();
+    let n = copy(&rest[h..r], inputs);
     let lent = limits.room as usize;
     let ran = run::run(
         &words[..k],

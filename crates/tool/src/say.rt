@@ -216,9 +216,14 @@ fn rule(n: u64) {
             b" does not conform: slots 0, 1 and 2 hold objects of classes 1, 2 and 3, and the value of a field is one of the field's type",
         ),
         18 => text(b" does not conform: its value is one of the type that main declares for it"),
+        _ => rule_of_a_run(n),
+    }
+}
+
+fn rule_of_a_run(n: u64) {
+    match n {
         19 => text(b" is broken: it is 1 to 1024"),
         20 => text(b" is too short: 16 words for each level of the depth limit, and 160 more"),
-        30 => {}
         31 => text(b"the object at "),
         32 => text(b"as many steps as the limit allows were taken, and one more could be"),
         33 => text(b"the next step lies deeper than the depth limit allows"),

@@ -7,11 +7,11 @@ use mathlib.Core.Path.{_≡_}
 use Rattle.answer.proofs.read_all.Tie as tie
 
 abbrev Inv-loop : tie.InvT-loop
-Inv-loop name₀ words₀ rest₀ r₀ turns₀ name words rest r turns =
-    (length name ≡ length name₀) × (length words ≡ length words₀) × (length rest ≡ length rest₀) × Within (r .line .filled) name₀ words₀ rest₀
+Inv-loop name₀ words₀ rest₀ inputs₀ room₀ r₀ turns₀ name words rest inputs room r turns =
+    (length name ≡ length name₀) × (length words ≡ length words₀) × (length rest ≡ length rest₀) × (length inputs ≡ length inputs₀) × (length room ≡ length room₀) × Within (r .line .filled) name₀ words₀ rest₀
 
 abbrev μ-loop : tie.MeasureT-loop
-μ-loop name₀ words₀ rest₀ r₀ turns₀ name words rest r turns = turns
+μ-loop name₀ words₀ rest₀ inputs₀ room₀ r₀ turns₀ name words rest inputs room r turns = turns
 
 empty-requires : tie.Need-empty-requires Inv-loop μ-loop
 empty-requires c κs = search needs
@@ -43,6 +43,12 @@ same-length-2 c = search needs
 same-length-3 : tie.Need-same-length-3 Inv-loop μ-loop
 same-length-3 c = search needs
 
+same-length-4 : tie.Need-same-length-4 Inv-loop μ-loop
+same-length-4 c = search needs
+
+same-length-5 : tie.Need-same-length-5 Inv-loop μ-loop
+same-length-5 c = search needs
+
 returns : tie.Need-returns Inv-loop μ-loop
 returns c = search needs
 
@@ -62,4 +68,6 @@ read-all-spec =
     same-length
     same-length-2
     same-length-3
+    same-length-4
+    same-length-5
     returns)

@@ -1,4 +1,4 @@
--- `answer::runs::whole` is safe: the parts of a line are within the lent memory, and the room within its space. Assumes nothing.
+-- `answer::runs::whole` is safe: the parts of a line and the room are within the lent memory. Assumes nothing.
 use Rattle.answer.proofs.runs.whole.Statement.{statement}
 use Rattle.text.proofs.Laws.{counts}
 use borrow.Author.Needs.{needs}
@@ -10,9 +10,6 @@ wrong-requires c κs = search needs
 
 returns : tie.Need-returns
 returns c = search needs
-
-space-requires : tie.Need-space-requires
-space-requires c κs = search needs
 
 mul-copy : tie.Need-mul-copy
 mul-copy c = search needs
@@ -26,14 +23,8 @@ part-copy-start c = search needs
 part-copy-end : tie.Need-part-copy-end
 part-copy-end c = search needs
 
-slice-aggregate-copy : tie.Need-slice-aggregate-copy
-slice-aggregate-copy c = search needs
-
 copy-requires : tie.Need-copy-requires
 copy-requires c κs = search needs
-
-space-requires-2 : tie.Need-space-requires-2
-space-requires-2 c κs = search needs
 
 slice-aggregate-run : tie.Need-slice-aggregate-run
 slice-aggregate-run c = counts _ _ (omega arith)
@@ -44,14 +35,14 @@ slice-relend-prefix-run c = search needs
 slice-aggregate-run-2 : tie.Need-slice-aggregate-run-2
 slice-aggregate-run-2 c = counts _ _ (omega arith)
 
-array-share-prefix-inputs : tie.Need-array-share-prefix-inputs
-array-share-prefix-inputs c = search needs
+slice-reshare-prefix-run : tie.Need-slice-reshare-prefix-run
+slice-reshare-prefix-run c = search needs
 
 slice-aggregate-run-3 : tie.Need-slice-aggregate-run-3
 slice-aggregate-run-3 c = search needs
 
-array-borrow-prefix-room : tie.Need-array-borrow-prefix-room
-array-borrow-prefix-room c = search needs
+slice-relend-prefix-run-2 : tie.Need-slice-relend-prefix-run-2
+slice-relend-prefix-run-2 c = search needs
 
 slice-aggregate-run-4 : tie.Need-slice-aggregate-run-4
 slice-aggregate-run-4 c = counts _ _ (omega arith)
@@ -74,6 +65,12 @@ ran-requires c κs = (omega arith, counts _ _ (omega arith))
 same-length : tie.Need-same-length
 same-length c = search needs
 
+same-length-2 : tie.Need-same-length-2
+same-length-2 c = search needs
+
+same-length-3 : tie.Need-same-length-3
+same-length-3 c = search needs
+
 returns-2 : tie.Need-returns-2
 returns-2 c = search needs
 
@@ -83,20 +80,17 @@ whole-spec =
     (tie.spec
     wrong-requires
     returns
-    space-requires
     mul-copy
     sub-copy
     part-copy-start
     part-copy-end
-    slice-aggregate-copy
     copy-requires
-    space-requires-2
     slice-aggregate-run
     slice-relend-prefix-run
     slice-aggregate-run-2
-    array-share-prefix-inputs
+    slice-reshare-prefix-run
     slice-aggregate-run-3
-    array-borrow-prefix-room
+    slice-relend-prefix-run-2
     slice-aggregate-run-4
     run-requires
     numbers-of-requires
@@ -104,4 +98,6 @@ whole-spec =
     slice-aggregate-ran
     ran-requires
     same-length
+    same-length-2
+    same-length-3
     returns-2)
