@@ -28,7 +28,7 @@ use Rattle.laws.specs.Values.{valueAt, IsValue}
 use Rattle.classes.specs.Records.{Arguments, method-arguments}
 use Rattle.laws.specs.Postorder.{body-holds, method-filled}
 use Rattle.redexes.specs.declared.Target.{Target}
-use Rattle.redexes.specs.TagLaws.{tag-small}
+use Rattle.laws.specs.Tags.{word-low}
 use Rattle.redexes.specs.Outcomes.{EntersAt, RaisesAt, Calls}
 use Rattle.room.specs.declared.Focus.the-variants.{Node, Value as Word, Thrown}
 use Rattle.room.specs.Room.{searchWord, mostOperands, frameAt, storeOf, loaded, word, tag, kept, Fit}
@@ -54,10 +54,6 @@ block-types : (ws : List ℕ) (j : ℕ)
     → tabulate (suc (methodWord ws j 4)) (λ k. typeOf (blockWord ws j k)) ≡ Class (methodAt ws j .owner) ∷ methodAt ws j .params
 unfolding methodAt typesFrom tabulate blockWord
 block-types ws j = rw (class-word (methodWord ws j 0))
-
--- a value's word is small, so that 1 more is a word too
-pub word-low : (w : ℕ) → IsValue w → w < 5 * 2 ^ 32
-word-low w k = omega (arith, tag-small w k)
 
 -- the rules' body of a method is the tree of its node
 method-body : (ws : List ℕ) (j : ℕ) → methodAt ws j .body ≡ tree ws (methodWord ws j 5)

@@ -10,7 +10,6 @@ use lib.Seq.{getD-set-same, getD-set-other}
 use Rattle.order.specs.declared.Found.the-variants.{At, Nowhere}
 use Rattle.order.specs.Rules.{scan}
 use Rattle.words.specs.declared.Value.the-variants.{Addr}
-use Rattle.words.specs.Value.{addresses, wordOf}
 use Rattle.image.specs.Trailer.{nodeCount}
 use Rattle.image.specs.Nodes.{nodeWord, kindOf, nodeHolds}
 use Rattle.rules.specs.Trees.{new}
@@ -18,12 +17,10 @@ use Rattle.rules.specs.Program.{program}
 use Rattle.rules.specs.Classes.{hasFields}
 use Rattle.rules.specs.Heap.{obj, defaults, lowestFree, slotWords, heapOf}
 use Rattle.rules.specs.Step.{next, raises, newRedex, redex, outOfMemory, thrown-at, bare, load, step}
-use Rattle.laws.specs.Values.{valueAt, IsValue}
-use Rattle.laws.specs.Heap.{written-same}
 use Rattle.laws.specs.Trees.{tree-new}
 use Rattle.laws.specs.Frames.{step-new}
 use Rattle.heap.specs.Slots.{takenAt}
-use Rattle.redexes.specs.TagLaws.{word-value}
+use Rattle.laws.specs.Tags.{address-word}
 use Rattle.objects.specs.Made.{Made, Opens}
 use Rattle.objects.specs.MadeLaws.{opened}
 use Rattle.room.specs.declared.Focus.the-variants.{Node, Value, Thrown}
@@ -31,11 +28,6 @@ use Rattle.room.specs.Room.{searchWord, storeOf, loaded, Fit}
 use Rattle.room.specs.RoomLaws.{store-same, ok-same, set-frames}
 use Rattle.room.specs.Turn.{HeapOk, focusOf, Inv, Steps, Could}
 use Rattle.room.specs.Nodes.{node-goes}
-
--- the word of an address
-pub address-word : (a : ℕ) → a < addresses → IsValue (4 * 2 ^ 32 + a) × (valueAt (4 * 2 ^ 32 + a) ≡ Addr a)
-unfolding wordOf
-address-word a h = (word-value (Addr a) h, written-same (Addr a) h)
 
 -- what the search from there finds
 module _ (ws hs : List ℕ) (from : ℕ) (ok : HeapOk ws hs from) (c : ℕ) where

@@ -6,4 +6,5 @@ pub mod Sites
 pub mod Classes
 pub mod Values
 pub mod Heap
+pub mod Tags
 pub mod Frames

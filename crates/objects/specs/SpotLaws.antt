@@ -1,18 +1,17 @@
--- Laws of a field's spot: the index of a field in every class, what a value's tag says, and the answers case by case.
+-- Laws of a field's spot: the index of a field in every class, and the answers case by case.
 use mathlib.Core.Path.{_≡_, refl, sym, _∙_, ap}
 use mathlib.Core.Bool.{Bool, true, false, cond, _&&_}
 use mathlib.Core.Option.{Option, none, some}
 use mathlib.Core.List.{List, [], _∷_, _++_}
 use Prim.Native.Nat.{ℕ, suc, _+_, _*_, _-_, _/_, _%_, _<_}
 use native.Mathlib.Omega.{arith}
-use lib.Dec.{eqb, ltb}
+use lib.Dec.{eqb}
 use lib.ListN.{length, getD, set}
 use lib.Seq.{getD-set-other}
-use borrow.Author.Tests.{eqb-true, eqb-false, ne-eqb, lt-ltb, ltb-true}
+use borrow.Author.Tests.{eqb-true, eqb-false, ne-eqb, lt-ltb}
 use Rattle.words.specs.declared.Value.{Value}
 use Rattle.words.specs.declared.Value.the-variants.{Null, Intg, Addr}
-use Rattle.words.specs.Value.{addresses, valueOf, wordOf, isIs, given, valueWith, tagOf, payloadOf}
-use Rattle.words.specs.ValueLaws.{is-given}
+use Rattle.words.specs.Value.{addresses, wordOf}
 use Rattle.image.specs.Trailer.{classCount}
 use Rattle.rules.specs.Program.{Field, Program, program}
 use Rattle.rules.specs.Classes.{super, subclass, own, hasFields, indexFrom, fieldIndex}
@@ -22,6 +21,7 @@ use Rattle.rules.specs.Step.{gives, fails, getField, getSlot, getRedex, putFiel
 use Rattle.laws.specs.Classes.{Lower, class-ind, subclass-here, subclass-end, subclass-suc, hasFields-zero, hasFields-suc, fieldIndex-found}
 use Rattle.laws.specs.Heap.{Words, fieldsAt, look-free, look-obj, obj-count, obj-field, class-known, written-word, written-proper, heap-put, heap-shaped, shaped-fits, shaped-put, shaped-words, words-heap, words-put}
 use Rattle.laws.specs.Values.{valueAt, IsValue}
+use Rattle.laws.specs.Tags.{null-at}
 use Rattle.heap.specs.Slots.{takenAt}
 use Rattle.heap.specs.SlotLaws.{slot-inside}
 use Rattle.objects.specs.Spots.{FieldSpot, FieldRaises, FieldFails}
@@ -72,27 +72,7 @@ module _ (P : Program) (d f : ℕ) where
           rw (subclass-suc P low c d, e, hasFields-suc P low c)
           (index-append (hasFields P (super P (suc c))) (own P (P .fields) (suc c)) d f 0 (index-own (suc c) n (P .fields)) ∙ ih)
 
--- What the tag of a value's word says.
-module _ (w : ℕ) (v : IsValue w) where
-  pub null-word : w / 4294967296 ≡ 1 → valueAt w ≡ Null
-  unfolding valueOf valueWith tagOf
-  null-word e = go (eqb (payloadOf w) 0) refl
-    where
-      q : isIs (valueWith 1 (payloadOf w)) ≡ true
-      q = rw e at v
-
-      go : (t : Bool) → eqb (payloadOf w) 0 ≡ t → valueAt w ≡ Null
-      go true z = rw (e, z)
-      go false z = absurd (let y = rw z at q in let x : _≡_ {A = ℕ} 0 1 = cc in omega arith)
-
-  pub address-word : w / 4294967296 ≡ 4 → (valueAt w ≡ Addr (w % 4294967296)) × (w % 4294967296 < addresses)
-  unfolding valueOf valueWith tagOf payloadOf
-  address-word e =
-      let q : isIs (given (ltb (w % 4294967296) addresses) (Addr (w % 4294967296))) ≡ true = rw e at v in
-      let z = sym (is-given (ltb (w % 4294967296) addresses) (Addr (w % 4294967296))) ∙ q in
-      (rw (e, z), ltb-true _ _ z)
-
--- and where it says something else, there is no object
+-- a value that is neither null nor an address has no object
 module _ (P : Program) (h : Heap) (name d : ℕ) where
   no-object : (v : Value) → (v ≡ Null → ⊥) → ((a : ℕ) → v ≡ Addr a → ⊥)
       → (getRedex P h name d v ≡ fails) × ((u : Value) → putRedex P h name d v u ≡ fails)
@@ -107,7 +87,7 @@ module _ (P : Program) (h : Heap) (name d : ℕ) where
 module _ (ws hs : List ℕ) (name d w : ℕ) where
   pub spot-null : IsValue w → w / 4294967296 ≡ 1 → FieldRaises ws hs name d w 0
   unfolding getRedex putRedex
-  spot-null v e = let z = null-word w v e in record { known = omega arith; reads = rw z; writes = λ u. rw z }
+  spot-null v e = let z = null-at w v e in record { known = omega arith; reads = rw z; writes = λ u. rw z }
 
   pub spot-other : IsValue w → (w / 4294967296 ≡ 1 → ⊥) → (w / 4294967296 ≡ 4 → ⊥) → FieldFails ws hs name d w
   unfolding wordOf

@@ -1,5 +1,4 @@
 -- What the answers of a step's decisions say.
 pub mod Outcomes
 -- Laws, which a reader need not believe: the checker does.
-pub mod TagLaws
 pub mod RedexLaws

@@ -37,7 +37,7 @@ use Rattle.redexes.specs.declared.Target.{Target}
 use Rattle.redexes.specs.declared.Catch.{Catch}
 use Rattle.redexes.specs.declared.Catch.the-variants.{Catches, Passes}
 use Rattle.redexes.specs.Outcomes.{redexOf, Chooses, ThrowsAt, Throws, EntersAt, Calls, Tries}
-use Rattle.redexes.specs.TagLaws.{word-value, tag-is, payload-is, null-at, integer-at, address-at, address-small, no-address}
+use Rattle.laws.specs.Tags.{word-value, tag-is, payload-is, null-at, integer-at, address-at, address-small, no-address}
 
 -- an integer's word
 integer-value : (i : ℕ) → i < 2 ^ 32 → valueAt (3 * 2 ^ 32 + i) ≡ Intg i

@@ -3,7 +3,7 @@ use mathlib.Core.Path.{_≡_, refl, sym, _∙_, ap}
 use mathlib.Core.Bool.{Bool, true, false, _&&_}
 use mathlib.Core.Option.{none, some}
 use mathlib.Core.List.{List, map}
-use Prim.Native.Nat.{ℕ, zero, suc, _+_, _/_, _%_, _^_, _≤_, _<_}
+use Prim.Native.Nat.{ℕ, zero, suc, _+_, _/_, _%_, _≤_, _<_}
 use native.Mathlib.Omega.{arith}
 use native.Mathlib.Decide.{ℕ-discrete}
 use lib.Dec.{eqb, leb, ltb}
@@ -30,7 +30,6 @@ use Rattle.rules.specs.Numbers.{mostSlots, fewestSlots, mostDepth, roomWords, f
 use Rattle.laws.specs.Maps.{from-at, from-below, from-beyond, getD-map}
 use Rattle.laws.specs.Values.{valueAt, IsValue}
 use Rattle.laws.specs.Heap.{words}
-use Rattle.redexes.specs.TagLaws.{tag-small}
 use Rattle.heap.specs.WordLaws.{inputs-count}
 use Rattle.room.specs.Room.{searchWord, frameAt, held as holding, storeOf, frames, Held, Fit}
 use Rattle.room.specs.RoomLaws.{store-at}
@@ -85,10 +84,6 @@ filled-on {is} {room} {i} f h =
 
 pub filled-whole : {is room : List ℕ} {i : ℕ} → Filled is room i → i ≤ length is → length is ≤ i → Filled is room (length is)
 filled-whole {is} {room} {i} f h k = let e : i ≡ length is = omega arith in rw e at f
-
--- a value's word has room for one more
-pub value-more : (w : ℕ) → IsValue w → w + 1 < 2 ^ 64
-value-more w v = omega (arith, tag-small w v)
 
 -- The store, the words of variables and the search's start of such a room.
 module _ {is room : List ℕ} (f : Filled is room (length is)) (few : length is ≤ 8) where

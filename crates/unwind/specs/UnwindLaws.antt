@@ -2,28 +2,14 @@
 use mathlib.Core.Path.{_≡_}
 use mathlib.Core.List.{List}
 use mathlib.Core.Bool.{true}
-use Prim.Native.Nat.{ℕ, suc, _+_, _*_, _^_, _<_}
+use Prim.Native.Nat.{ℕ, suc, _<_}
 use native.Mathlib.Omega.{arith}
-use Rattle.words.specs.declared.Value.the-variants.{Addr}
-use Rattle.words.specs.Value.{addresses, wordOf}
 use Rattle.image.specs.Numbers.{variables}
 use Rattle.image.specs.Nodes.{nodeWord, kindOf, operands, nodeHolds}
-use Rattle.laws.specs.Values.{valueAt, IsValue}
-use Rattle.laws.specs.Heap.{written-same}
 use Rattle.laws.specs.Trees.{operandCount, operand-below}
-use Rattle.redexes.specs.TagLaws.{word-value}
 use Rattle.room.specs.declared.Focus.{Focus}
 use Rattle.room.specs.Room.{shapeOf, word, tag}
 use Rattle.room.specs.Turn.{Inv}
-
--- the word of an address
-pub address-value : (a : ℕ) → a < addresses → valueAt (4 * 2 ^ 32 + a) ≡ Addr a
-unfolding wordOf
-address-value a h = written-same (Addr a) h
-
-pub address-word : (a : ℕ) → a < addresses → IsValue (4 * 2 ^ 32 + a)
-unfolding wordOf
-address-word a h = word-value (Addr a) h
 
 -- a Try has an operand, so it is not the table's first node
 pub try-after : (ws : List ℕ) (p : ℕ) → nodeHolds ws p ≡ true → nodeWord ws p 0 ≡ 15 → 0 < p

@@ -1,7 +1,7 @@
 -- `back::back_assign` meets its contract.
 use Rattle.back.proofs.back_assign.Statement.{statement}
 use Rattle.back.specs.ComesLaws.{assign-taken, assign-turned, taken-below, taken-place}
-use Rattle.redexes.specs.TagLaws.{tag-small}
+use Rattle.laws.specs.Tags.{tag-small}
 use Rattle.room.specs.Nodes.{assign-local}
 use borrow.Author.Needs.{needs}
 use mathlib.Core.Path.{_∙_, sym}

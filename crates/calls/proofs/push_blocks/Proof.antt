@@ -2,7 +2,8 @@
 use Prim.Native.Nat.{_-_, _≤_, suc, ℕ}
 use Rattle.calls.proofs.push_blocks.Statement.{statement}
 use Rattle.calls.specs.Blocks.{Callable, Pushed}
-use Rattle.calls.specs.CallLaws.{arguments-in, pushed-as, pushed-first, pushed-low, pushed-next, pushed-size, word-low}
+use Rattle.calls.specs.CallLaws.{arguments-in, pushed-as, pushed-first, pushed-low, pushed-next, pushed-size}
+use Rattle.laws.specs.Tags.{word-low}
 use borrow.Author.Needs.{needs}
 use mathlib.Core.List.{List}
 use native.Mathlib.Omega.{arith}

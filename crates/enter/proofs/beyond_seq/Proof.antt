@@ -3,7 +3,7 @@ use Rattle.enter.proofs.beyond_seq.Statement.{statement}
 use Rattle.enter.specs.Beyond.{deep-seq, deep-seq-assign, deep-seq-unarmed}
 use Rattle.enter.specs.EnterLaws.{assign-operand, holds-at, not-first, seq-operand}
 use Rattle.enter.specs.TakeUp.{seq-takes}
-use Rattle.redexes.specs.TagLaws.{tag-small}
+use Rattle.laws.specs.Tags.{tag-small}
 use Rattle.room.specs.Nodes.{assign-local}
 use borrow.Author.Needs.{needs}
 use borrow.Author.Tests.{not-false, not-true}

@@ -1,7 +1,7 @@
 -- `enter::take_up` meets its contract.
 use Rattle.enter.proofs.take_up.Statement.{statement}
 use Rattle.enter.specs.Turns.{restOf}
-use Rattle.redexes.specs.TagLaws.{tag-small}
+use Rattle.laws.specs.Tags.{tag-small}
 use borrow.Author.Needs.{needs}
 use borrow.Author.Tests.{eq-eqb, ne-eqb}
 use native.Mathlib.Numerals.{add-one}

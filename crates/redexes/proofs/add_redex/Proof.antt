@@ -1,7 +1,7 @@
 -- `redexes::add_redex` meets its contract.
 use Rattle.redexes.proofs.add_redex.Statement.{statement}
 use Rattle.redexes.specs.RedexLaws.{add-fails, add-sum, add-word}
-use Rattle.redexes.specs.TagLaws.{tag-small}
+use Rattle.laws.specs.Tags.{tag-small}
 use borrow.Author.Needs.{needs}
 use native.Mathlib.Omega.{arith}
 use Rattle.redexes.proofs.add_redex.Tie as tie

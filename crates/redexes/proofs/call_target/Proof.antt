@@ -1,7 +1,7 @@
 -- `redexes::call_target` meets its contract.
 use Rattle.redexes.proofs.call_target.Statement.{statement}
 use Rattle.redexes.specs.RedexLaws.{call-fails, call-null}
-use Rattle.redexes.specs.TagLaws.{address-at, address-small}
+use Rattle.laws.specs.Tags.{address-at, address-small}
 use Rattle.redexes.proofs.call_target.Tie as tie
 
 method-target-requires : tie.Need-method-target-requires

@@ -1,7 +1,7 @@
 -- `redexes::cast_redex` meets its contract.
 use Rattle.redexes.proofs.cast_redex.Statement.{statement}
 use Rattle.redexes.specs.RedexLaws.{cast-fails, cast-null}
-use Rattle.redexes.specs.TagLaws.{address-at, address-small}
+use Rattle.laws.specs.Tags.{address-at, address-small}
 use Rattle.redexes.proofs.cast_redex.Tie as tie
 
 cast-address-requires : tie.Need-cast-address-requires

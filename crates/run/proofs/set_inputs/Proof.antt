@@ -1,7 +1,8 @@
 -- `run::set_inputs` meets its contract.
 use Prim.Native.Nat.{_-_, _≤_}
+use Rattle.laws.specs.Tags.{word-low}
 use Rattle.run.proofs.set_inputs.Statement.{statement}
-use Rattle.run.specs.Laws.{filled-on, filled-start, filled-whole, value-more}
+use Rattle.run.specs.Laws.{filled-on, filled-start, filled-whole}
 use Rattle.run.specs.Start.{Filled}
 use borrow.Author.Needs.{needs}
 use lib.ListN.{length, length-set}
@@ -25,7 +26,7 @@ shared-slice-read-room : tie.Need-shared-slice-read-room Inv-loop μ-loop
 shared-slice-read-room c = search needs
 
 add-room : tie.Need-add-room Inv-loop μ-loop
-add-room c = omega (arith, value-more _ (c .before .before .before .pre .3 (c .before .before .loop .i) (search needs)))
+add-room c = omega (arith, word-low _ (c .before .before .before .pre .3 (c .before .before .loop .i) (search needs)))
 
 add-room-2 : tie.Need-add-room-2 Inv-loop μ-loop
 add-room-2 c = search needs

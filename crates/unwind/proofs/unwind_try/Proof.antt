@@ -1,10 +1,11 @@
 -- `unwind::unwind_try` meets its contract.
 use Prim.Native.Nat.{_*_, _+_, _^_}
+use Rattle.laws.specs.Tags.{address-word}
 use Rattle.room.specs.Nodes.{try-local}
 use Rattle.room.specs.Unwind.{catch-steps, halt-try, is-try, pass-try}
 use Rattle.rules.specs.Trees.{operand}
 use Rattle.unwind.proofs.unwind_try.Statement.{statement}
-use Rattle.unwind.specs.UnwindLaws.{address-value, address-word, try-after}
+use Rattle.unwind.specs.UnwindLaws.{try-after}
 use borrow.Author.Needs.{needs}
 use mathlib.Core.Path.{refl}
 use native.Mathlib.Numerals.{add-one}
@@ -58,7 +59,7 @@ same-length c = search needs
 
 returns : tie.Need-returns
 unfolding operand
-returns c = let p = c .before .before .before .before .before .before .before .before .before .before .before .before .pre in let k = rw (c .before .before .before .before .before .enum-told .given .1, c .before .before .before .before .before .before .before .before .node-word .ensures, p .4) at (c .before .before .before .before .before .before .before .catch-redex .ensures) in λ may. (rw (c .before .before .push-block .ensures, c .before .before .before .before .node-word2 .ensures, c .before .before .before .before .before .before .before .before .node-word .ensures, p .4, add-one (c .before .before .before .before .before .before .before .before .before .before .before .before .args .i), add-one (4 * 2 ^ 32 + c .before .before .before .before .before .before .before .before .before .before .before .before .args .a)) (catch-steps _ (p .0 .nodes) _ _ _ _ _ _ (p .1) (p .2) (p .3) _ (address-value _ (p .1 .here)) (address-word _ (p .1 .here)) (k _ _ _ _)), λ e. refl)
+returns c = let p = c .before .before .before .before .before .before .before .before .before .before .before .before .pre in let k = rw (c .before .before .before .before .before .enum-told .given .1, c .before .before .before .before .before .before .before .before .node-word .ensures, p .4) at (c .before .before .before .before .before .before .before .catch-redex .ensures) in λ may. (rw (c .before .before .push-block .ensures, c .before .before .before .before .node-word2 .ensures, c .before .before .before .before .before .before .before .before .node-word .ensures, p .4, add-one (c .before .before .before .before .before .before .before .before .before .before .before .before .args .i), add-one (4 * 2 ^ 32 + c .before .before .before .before .before .before .before .before .before .before .before .before .args .a)) (catch-steps _ (p .0 .nodes) _ _ _ _ _ _ (p .1) (p .2) (p .3) _ (address-word _ (p .1 .here) .1) (address-word _ (p .1 .here) .0) (k _ _ _ _)), λ e. refl)
 
 returns-2 : tie.Need-returns-2
 returns-2 c = let p = c .before .before .before .before .before .before .before .pre in let k = rw (c .enum-told2 .given .1, c .before .before .before .node-word .ensures, p .4) at (c .before .before .catch-redex .ensures) in λ may. (rw (p .4) (pass-try _ (p .0 .nodes) _ _ _ _ _ _ (p .1) (p .2) (p .3) (k _ _ _ _)), λ e. refl)

@@ -1,7 +1,7 @@
 -- Laws of a value word by its tag.
 use mathlib.Core.Path.{_≡_, refl, sym, _∙_, ap}
 use mathlib.Core.Bool.{Bool, true, false}
-use Prim.Native.Nat.{ℕ, _/_, _%_, _^_, _<_}
+use Prim.Native.Nat.{ℕ, _+_, _*_, _/_, _%_, _^_, _<_}
 use native.Mathlib.Omega.{arith}
 use lib.Dec.{eqb, ltb}
 use Rattle.words.specs.declared.Value.{Value}
@@ -10,12 +10,17 @@ use Rattle.words.specs.Value.{addresses, wordOf, Proper, tagOf, payloadOf, give
 use Rattle.words.specs.ValueLaws.{encode-decode}
 use Rattle.rules.specs.Trees.{written}
 use Rattle.rules.specs.Step.{tag, payload}
 use Rattle.laws.specs.Values.{valueAt, IsValue}
-use Rattle.laws.specs.Heap.{written-word, written-proper}
+use Rattle.laws.specs.Heap.{written-word, written-proper, written-same}
 
 -- A proper value's word is a value's. (Its value is that one: `written-same`.)
 pub word-value : (v : Value) → Proper v → IsValue (wordOf v)
 word-value v h = ap isIs (encode-decode v h)
+
+-- the word of an address
+pub address-word : (a : ℕ) → a < addresses → IsValue (4 * 2 ^ 32 + a) × (valueAt (4 * 2 ^ 32 + a) ≡ Addr a)
+unfolding wordOf
+address-word a h = (word-value (Addr a) h, written-same (Addr a) h)
 
 given-value : (b : Bool) (v : Value) → isIs (given b v) ≡ true → written (given b v) ≡ v
 given-value true v k = refl
@@ -49,6 +54,10 @@ module _ (w : ℕ) (k : IsValue w) where
       go (Value.Bool b) = omega arith
       go (Intg i) = omega arith
       go (Addr a) = omega arith
+
+  -- so the word is small, and 1 more is a word too
+  pub word-low : w < 5 * 2 ^ 32
+  word-low = omega (arith, tag-small)
 
   pub unit-at : w / 2 ^ 32 ≡ 0 → valueAt w ≡ Value.Unit
   unfolding valueOf valueWith tagOf payloadOf
