@@ -5,7 +5,6 @@ use mathlib.Core.List.{List}
 use mathlib.Core.Logic.{inl, inr}
 use Prim.Native.Nat.{ℕ, zero, suc, _-_, _≤_, _<_}
 use native.Mathlib.Omega.{arith}
-use Rattle.image.specs.Numbers.{variables}
 use Rattle.image.specs.Nodes.{nodeWord, kindOf, operands, nodeHolds}
 use Rattle.laws.specs.Values.{IsValue}
 use Rattle.laws.specs.Trees.{operand-below}
@@ -26,10 +25,6 @@ module _ (ws room : List ℕ) (i : ℕ) (fit : Fit ws room (suc i)) where
   pub node-test : (p : ℕ) → tag ws room i ≡ 13 → word ws room i 1 ≡ p → IsNode ws p 13
   unfolding shapeOf
   node-test p t q = let o = rw (t, q) at ok in o
-
-  pub block-variable : tag ws room i ≡ 10 → word ws room i 2 < variables
-  unfolding shapeOf
-  block-variable t = let o = rw t at ok in o .0
 
   -- the tags that are left, when no other function has taken the frame
   pub tag-left : (t : ℕ) → tag ws room i ≡ t → Unheaped t → (t ≡ 6 → ⊥) → (t ≡ 10 → ⊥) → (t ≡ 11 → ⊥) → (t ≡ 12 → ⊥) → (t ≡ 13 → ⊥) → (t ≡ 14 → ⊥)

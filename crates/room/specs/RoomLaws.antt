@@ -151,6 +151,11 @@ module _ (ws : List ℕ) where
       go y k (yes e) = rw (e, getD-set-same room x w 0 (omega (arith, f .long))) o
       go y k (no d) = rw (getD-set-other room x y w 0 d) (f .held-ok y k)
 
+-- a block's frame names a variable
+pub fit-variable : {ws room : List ℕ} {i : ℕ} → Fit ws room (suc i) → tag ws room i ≡ 10 → word ws room i 2 < variables
+unfolding shapeOf
+fit-variable {ws} {room} {i} f t = let o = rw t at (f .frame-ok i (omega arith)) in o .0
+
 -- a frame's tag and place written
 unfoldable pub push : List ℕ → (l tag p : ℕ) → List ℕ
 push room l t p = set (set room (frameAt l) t) (frameAt l + 1) p

@@ -1,9 +1,10 @@
 -- `back::back_plain` meets its contract.
 use Rattle.back.proofs.back_plain.Statement.{statement}
 use Rattle.back.specs.ComesLaws.{loop-turned, seq-turned, try-turned}
-use Rattle.back.specs.FrameLaws.{block-variable, first-shape, inner, inner-first, node-first, node-second, node-test, tag-left}
+use Rattle.back.specs.FrameLaws.{first-shape, inner, inner-first, node-first, node-second, node-test, tag-left}
 use Rattle.image.specs.Nodes.{kindOf, operands}
 use Rattle.room.specs.Room.{shapeOf}
+use Rattle.room.specs.RoomLaws.{fit-variable}
 use borrow.Author.Needs.{needs}
 use mathlib.Core.Path.{_∙_, refl}
 use native.Mathlib.Omega.{arith}
@@ -14,7 +15,7 @@ unfolding shapeOf kindOf operands
 back-assign-requires c κs = let p = c .before .before .before .before .pre in let n = node-first _ _ _ (p .2) 6 (c .before .before .before .before .args .p) refl (p .4 ∙ c .before .match .keys1) (p .5) in (p .0, rw (p .0 .lay .node-count) (n .0), n .1, p .2, p .3)
 
 back-block-requires : tie.Need-back-block-requires
-back-block-requires c κs = let p = c .before .before .before .before .pre in (block-variable _ _ _ (p .2) (p .4 ∙ c .before .match .keys2), p .2 .long)
+back-block-requires c κs = let p = c .before .before .before .before .pre in (fit-variable (p .2) (p .4 ∙ c .before .match .keys2), p .2 .long)
 
 sub-t13 : tie.Need-sub-t13
 unfolding shapeOf kindOf operands

@@ -1,7 +1,7 @@
 -- `unwind::unwind` meets its contract.
+use Rattle.room.specs.RoomLaws.{fit-variable}
 use Rattle.room.specs.Unwind.{leave-steps, pass-steps}
 use Rattle.unwind.proofs.unwind.Statement.{statement}
-use Rattle.unwind.specs.UnwindLaws.{block-variable}
 use borrow.Author.Needs.{needs}
 use mathlib.Core.Path.{refl}
 use native.Mathlib.Omega.{arith}
@@ -47,10 +47,10 @@ slice-read-room : tie.Need-slice-read-room
 slice-read-room c = search needs
 
 mul-room-2 : tie.Need-mul-room-2
-mul-room-2 c = let p = c .before .before .before .before .before .before .before .before .pre in let v = block-variable (p .1) (c .before .before .match .keys1) in omega (arith, v)
+mul-room-2 c = let p = c .before .before .before .before .before .before .before .before .pre in let v = fit-variable (p .1 .fit) (c .before .before .match .keys1) in omega (arith, v)
 
 slice-write-room : tie.Need-slice-write-room
-slice-write-room c = let p = c .before .before .before .before .before .before .before .before .pre in let v = block-variable (p .1) (c .before .before .match .keys1) in omega (arith, v, p .1 .long)
+slice-write-room c = let p = c .before .before .before .before .before .before .before .before .pre in let v = fit-variable (p .1 .fit) (c .before .before .match .keys1) in omega (arith, v, p .1 .long)
 
 unwind-try-requires : tie.Need-unwind-try-requires
 unwind-try-requires c κs = search needs
