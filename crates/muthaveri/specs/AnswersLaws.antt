@@ -1,28 +1,22 @@
 -- The run's answer as numbers is the one promised; and one answer meets each promise.
-use mathlib.Core.Path.{_≡_, refl, sym, _∙_}
+use mathlib.Core.Path.{_≡_, sym, _∙_}
 use mathlib.Core.Bool.{false}
 use mathlib.Core.List.{List}
 use Prim.Native.Nat.{ℕ}
 use lib.Dec.{eqb}
-use Rattle.layout.specs.Promise.{breach-range}
+use borrow.Author.Tests.{ne-eqb}
 use Rattle.run.specs.declared.Refusal.{Refusal}
-use Rattle.run.specs.declared.Refusal.the-variants.{Layout, Fields, HeapLength, HeapWord, Input, Depth, Room}
 use Rattle.run.specs.declared.Told.{Told}
 use Rattle.run.specs.declared.Ran.{Ran}
 use Rattle.run.specs.declared.Ran.the-variants.{Refused, Ended as Over}
 use Rattle.run.specs.Answers.{refusalNumbers, toldOf, Answers}
+use Rattle.run.specs.Promise.{never-accepted}
 use Rattle.muthaveri.specs.declared.MuthaveriAnswer.{MuthaveriAnswer}
 use Rattle.muthaveri.specs.Answers.{checkAnswer, conformAnswer, runAnswer, heapLeft, roomLeft, RunAnswers}
 
 -- no refusal has the number 0
 refusal-told : (f : Refusal) → eqb (refusalNumbers f .number) 0 ≡ false
-refusal-told (Layout b) = breach-range b .0
-refusal-told (Fields p) = refl
-refusal-told HeapLength = refl
-refusal-told (HeapWord p) = refl
-refusal-told (Input p) = refl
-refusal-told Depth = refl
-refusal-told Room = refl
+refusal-told f = ne-eqb _ 0 (never-accepted f)
 
 -- the same four numbers
 abbrev pub outside : Told → MuthaveriAnswer
