@@ -10,3 +10,5 @@ pub mod Nodes
 pub mod Back
 pub mod Unwind
 pub mod Calls
+pub mod Leads
+pub mod LeadsLaws
