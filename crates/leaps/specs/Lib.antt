@@ -1,0 +1,2 @@
+-- Turns that take several steps at once.
+pub mod Lands

@@ -1,0 +1,97 @@
+// Turns that take several steps at once. A leap is taken where enough steps and levels are left, and where it has nothing to look up;
+// otherwise it tells so, and the machine takes the turn in its plain form.
+ghost use mathlib.Core.Path.{_≡_};
+ghost use Prim.Native.Nat.{suc, _+_, _≤_};
+ghost use lib.ListN.{getD};
+ghost use Rattle.image.specs.Layout.{Good};
+ghost use Rattle.heap.specs.Rows.{Rows};
+ghost use Rattle.room.specs.declared.Focus.the-variants.{Node, Value as Word, Thrown};
+ghost use Rattle.room.specs.Room.{searchWord};
+ghost use Rattle.room.specs.Turn.{HeapOk, Inv};
+ghost use Rattle.memo.specs.Memo.{Memo};
+ghost use Rattle.leaps.specs.Lands.{Lands};
+use image::Layout;
+
+// What a leap comes to. The word is a node, a value's word, or an address, and with an address the place is told.
+pub struct Leap {
+    pub how: u64,
+    pub word: u64,
+    pub place: usize,
+    pub level: usize,
+    pub steps: u64,
+}
+
+// How: nothing is done; or what is looked at then.
+pub const NONE: u64 = 0;
+
+pub const NODE: u64 = 1;
+
+pub const VALUE: u64 = 2;
+
+pub const THROWN: u64 = 3;
+
+fn none() -> Leap
+    ensures { λ r. ⌜ (r .how ≡ 0) × (r .steps ≡ 0) ⌝ }
+{
+    Leap {
+        how: NONE,
+        word: 0,
+        place: 0,
+        level: 0,
+        steps: 0,
+    }
+}
+
+// From node n on, under l frames.
+pub fn enter_leap(
+    ws: &[u32],
+    lay: Layout,
+    counts: &[usize],
+    types: &[u32],
+    heap: &mut [u64],
+    room: &mut [u64],
+    memo: &[u64],
+    depth: usize,
+    n: usize,
+    l: usize,
+) -> Leap
+    requires { ⌜ Good (now ws) lay × Rows (now ws) (now counts) (now types) × Inv (now ws) depth (now room) l (Node n) × HeapOk (now ws) (now heap) (getD (now room) searchWord 0) × Memo (now ws) (now memo) × (l + 3 ≤ depth) ⌝ }
+    ensures { λ r. ⌜ Lands (now (ws .entry)) depth l (now (heap .entry)) (now (room .entry)) l (Node n) (now (heap .exit)) (now (room .exit)) r ⌝ }
+{
+    none()
+}
+
+// A value comes back to frame i.
+pub fn back_leap(
+    ws: &[u32],
+    lay: Layout,
+    heap: &mut [u64],
+    room: &mut [u64],
+    memo: &[u64],
+    depth: usize,
+    i: usize,
+    w: u64,
+) -> Leap
+    requires { ⌜ Good (now ws) lay × Inv (now ws) depth (now room) (suc i) (Word w) × HeapOk (now ws) (now heap) (getD (now room) searchWord 0) × Memo (now ws) (now memo) × (suc i ≤ depth) ⌝ }
+    ensures { λ r. ⌜ Lands (now (ws .entry)) depth i (now (heap .entry)) (now (room .entry)) (suc i) (Word w) (now (heap .exit)) (now (room .exit)) r ⌝ }
+{
+    none()
+}
+
+// An address that is thrown comes to frame i.
+pub fn unwind_leap(
+    ws: &[u32],
+    lay: Layout,
+    heap: &[u64],
+    room: &mut [u64],
+    memo: &[u64],
+    depth: usize,
+    i: usize,
+    a: usize,
+    q: usize,
+) -> Leap
+    requires { ⌜ Good (now ws) lay × Inv (now ws) depth (now room) (suc i) (Thrown a q) × HeapOk (now ws) (now heap) (getD (now room) searchWord 0) × Memo (now ws) (now memo) × (suc i ≤ depth) ⌝ }
+    ensures { λ r. ⌜ Lands (now (ws .entry)) depth i (now (heap .entry)) (now (room .entry)) (suc i) (Thrown a q) (now (heap .entry)) (now (room .exit)) r ⌝ }
+{
+    none()
+}

@@ -1,0 +1,2 @@
+-- What lookups found, kept.
+pub mod Memo

@@ -1,0 +1,2 @@
+-- Operands that have their value without a frame.
+pub mod Known
