@@ -5,21 +5,29 @@ use mathlib.Core.List.{List}
 use Prim.Native.Nat.{ℕ, zero, suc, _+_, _*_, _-_, _≤_, _<_}
 use native.Mathlib.Nat.{mul-le-mul-right, suc-mul}
 use native.Mathlib.Omega.{arith}
-use lib.ListN.{getD}
+use lib.ListN.{length, getD}
 use Rattle.image.specs.Trailer.{nodeCount}
 use Rattle.image.specs.Nodes.{nodeHolds}
+use Rattle.rules.specs.Run.{Ended}
 use Rattle.room.specs.declared.Focus.{Focus}
 use Rattle.room.specs.declared.Focus.the-variants.{Thrown}
 use Rattle.room.specs.Room.{searchWord}
 use Rattle.room.specs.RoomLaws.{Kept}
-use Rattle.room.specs.Turn.{HeapOk, phi, Inv}
+use Rattle.room.specs.Turn.{HeapOk, phi, Inv, Moves, Steps}
 use Rattle.room.specs.Leads.{Leads, Leaps}
 use Rattle.room.specs.LeadsLaws.{leads-none, leads-on, leaps-on, leads-kept}
 use Rattle.leaps.specs.declared.Leap.{Leap}
 use Rattle.leaps.specs.Lands.{Landing, Lands}
-use Rattle.machine.specs.Runs.{bound, phi-low}
+use Rattle.machine.specs.Runs.{bound, phi-low, Running, left, went-left, took-left}
 use Rattle.machine.specs.declared.Reached.{Reached}
 use Rattle.machine.specs.Reaches.{focusAt, Reaches}
+
+-- neither a node nor a value
+pub focus-thrown : (how word place : ℕ) → (how ≡ 1 → ⊥) → (how ≡ 2 → ⊥) → focusAt how word place ≡ Thrown word place
+focus-thrown zero word place d e = refl
+focus-thrown (suc zero) word place d e = absurd (d refl)
+focus-thrown (suc (suc zero)) word place d e = absurd (e refl)
+focus-thrown (suc (suc (suc how))) word place d e = refl
 
 module _ (ws : List ℕ) (D : ℕ) where
   -- so far, with so many steps left
@@ -116,3 +124,44 @@ module _ (ws : List ℕ) (good : (n : ℕ) → n < nodeCount ws → nodeHolds ws
     leads-less left a h =
         let b = more-fuel k left (suc (phi ws room l f)) (phi ws room' l' f') h (λ e. omega (arith, a .rests e)) (phi-low ws good D room' l' f' (a .inv)) in
         omega (arith, b)
+
+  -- what is left after leaps in a row
+  pub reaches-less : {steps : ℕ} {hs room : List ℕ} {l : ℕ} {f : Focus} {hs' room' : List ℕ} {r : Reached}
+      → Reaches ws D steps hs room l f hs' room' r
+      → fuel ws D (r .left) room' (r .level) (focusAt (r .how) (r .word) (r .place)) ≤ fuel ws D steps room l f
+  reaches-less {steps} {r = r} a =
+      let e : steps - (steps - r .left) ≡ r .left = omega (arith, a .low) in
+      rw e at (leads-less steps (a .leads) (omega arith))
+
+  -- less is left after a turn and leaps in a row
+  pub went-reaches-less : {limit count : ℕ} {hs room : List ℕ} {l : ℕ} {f : Focus} {room₁ : List ℕ} {l₁ : ℕ} {f₁ : Focus} {hs' room' : List ℕ} {r : Reached}
+      → Moves ws D room l f room₁ l₁ f₁ → Reaches ws D (limit - count) hs room₁ l₁ f₁ hs' room' r → count ≤ limit
+      → left ws D limit (limit - r .left) room' (r .level) (focusAt (r .how) (r .word) (r .place)) < left ws D limit count room l f
+  went-reaches-less {limit} {count} {room = room} {l} {f} {room₁} {l₁} {f₁} {r = r} m a h =
+      let e : limit - (limit - r .left) ≡ r .left = omega (arith, a .low) in
+      rw e (omega (arith, reaches-less a, went-left ws good D limit count room l f room₁ l₁ f₁ m))
+
+  pub took-reaches-less : {limit count : ℕ} {hs room : List ℕ} {l : ℕ} {f : Focus} {hs₁ room₁ : List ℕ} {l₁ : ℕ} {f₁ : Focus} {hs' room' : List ℕ} {r : Reached}
+      → Steps ws D hs room l f hs₁ room₁ l₁ f₁ → Reaches ws D (limit - (count + 1)) hs₁ room₁ l₁ f₁ hs' room' r → count < limit
+      → left ws D limit (limit - r .left) room' (r .level) (focusAt (r .how) (r .word) (r .place)) < left ws D limit count room l f
+  took-reaches-less {limit} {count} {room = room} {l} {f} {room₁ = room₁} {l₁} {f₁} {r = r} m a h =
+      let e : limit - (limit - r .left) ≡ r .left = omega (arith, a .low) in
+      rw e (omega (arith, reaches-less a, took-left ws good D limit count room l f room₁ l₁ f₁ h (m .inv)))
+
+  -- a run goes on where leaps have come to
+  module _ {limit : ℕ} {ended : Ended} {hs₀ room₀ hs room : List ℕ} {l : ℕ} {f : Focus} {count : ℕ}
+      (g : Running ws D limit ended hs₀ room₀ hs room l f count) where
+    pub led : {hs' room' : List ℕ} {r : Reached} (m : ℕ) → m ≡ limit - count → Reaches ws D m hs room l f hs' room' r → length hs' ≡ length hs
+        → Running ws D limit ended hs₀ room₀ hs' room' (r .level) (focusAt (r .how) (r .word) (r .place)) (limit - r .left)
+    led {hs'} {room'} {r} m z a b =
+        let e : limit - (limit - r .left) ≡ r .left = omega (arith, a .low, g .low) in
+        let u : m - r .left + r .left ≡ limit - count = omega (arith, a .low) in
+        let v : m - r .left + count ≡ limit - r .left = omega (arith, a .low, g .low) in
+        record {
+          inv = a .leads .inv;
+          heap = a .leads .heap;
+          low = omega arith;
+          size = a .leads .size ∙ g .size;
+          heap-size = b ∙ g .heap-size;
+          rest = rw e (sym (rw (u, v) at (a .leads .runs (r .left) count)) ∙ g .rest);
+        }
