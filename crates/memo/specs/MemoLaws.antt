@@ -1,18 +1,16 @@
 -- Laws of what is kept.
-use mathlib.Core.Path.{_≡_, refl, sym, _∙_, ap}
+use mathlib.Core.Path.{_≡_, refl, sym, _∙_}
 use mathlib.Core.Bool.{true, false, _&&_}
-use native.Mathlib.Decide.{ℕ-discrete}
 use mathlib.Core.Option.{some}
 use mathlib.Core.List.{List}
 use mathlib.Core.Logic.{_⊎_, inl, inr}
 use Prim.Native.Nat.{ℕ, suc, _+_, _*_, _-_, _/_, _%_, _≤_, _<_}
 use native.Mathlib.Omega.{arith}
+use native.Mathlib.Decide.{ℕ-discrete}
 use lib.Dec.{eqb}
 use lib.ListN.{length, getD, set, length-set}
 use lib.Seq.{getD-set-same, getD-set-other}
 use borrow.Author.Tests.{eqb-true}
-use Rattle.words.specs.declared.Value.the-variants.{Addr}
-use Rattle.words.specs.Value.{addresses}
 use Rattle.image.specs.Trailer.{classCount, nodeCount}
 use Rattle.image.specs.Layout.{Good}
 use Rattle.image.specs.declared.Layout.{Layout}
@@ -35,7 +33,7 @@ use Rattle.redexes.specs.Outcomes.{EntersAt, Tries}
 use Rattle.redexes.specs.RedexLaws.{object-class, call-enters, catch-below, catch-other}
 use Rattle.room.specs.Nodes.{get-name, get-class, set-name, set-class}
 use Rattle.room.specs.Room.{IsNode}
-use Rattle.memo.specs.Memo.{memoWords, foundOf, classOf, nodeOf, IsField, HasField, HasMethod, Judges, Learnt, Entry, Memo}
+use Rattle.memo.specs.Memo.{memoWords, foundOf, classOf, nodeOf, IsField, Judges, Learnt, Entry, Memo}
 
 -- a table of zeros
 pub memo-empty : (ws memo : List ℕ) → length memo ≡ memoWords → ((k : ℕ) → k < memoWords → getD memo k 0 ≡ 0) → Memo ws memo

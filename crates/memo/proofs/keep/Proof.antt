@@ -1,40 +1,31 @@
-use Rattle.memo.specs.MemoLaws.{memo-kept}
-use native.Mathlib.Omega.{arith}
-use borrow.Author.Needs.{needs}
+-- `memo::keep` meets its contract.
 use Rattle.memo.proofs.keep.Statement.{statement}
+use Rattle.memo.specs.MemoLaws.{memo-kept}
+use borrow.Author.Needs.{needs}
+use native.Mathlib.Omega.{arith}
 use Rattle.memo.proofs.keep.Tie as tie
-use Rattle.memo.proofs.keep.Reads as reads
-use Rattle.memo.proofs.keep.Lts as lts
 
--- src/lib.rt:79:29
 mul-memo : tie.Need-mul-memo
 mul-memo c = search needs
 
--- src/lib.rt:79:29
 add-memo : tie.Need-add-memo
 add-memo c = search needs
 
--- src/lib.rt:79:28
 mul-memo-2 : tie.Need-mul-memo-2
 mul-memo-2 c = search needs
 
--- src/lib.rt:79:28
 add-memo-2 : tie.Need-add-memo-2
 add-memo-2 c = search needs
 
--- src/lib.rt:79:5
 mul-memo-3 : tie.Need-mul-memo-3
 mul-memo-3 c = search needs
 
--- src/lib.rt:79:5
 slice-write-memo : tie.Need-slice-write-memo
 slice-write-memo c = search needs
 
--- src/lib.rt:75:1
 same-length : tie.Need-same-length
 same-length c = search needs
 
--- src/lib.rt:75:1
 returns : tie.Need-returns
 returns c = λ ws m l. memo-kept ws _ _ _ (c .pre .2) (c .pre .3) _ m l _ (omega arith)
 

@@ -1,80 +1,60 @@
+-- `memo::learn_call` meets its contract.
+use Rattle.memo.proofs.learn_call.Statement.{statement}
 use Rattle.room.specs.Room.{kept}
 use Rattle.room.specs.RoomLaws.{fit-call}
-use native.Mathlib.Omega.{arith}
 use borrow.Author.Needs.{needs}
-use Rattle.memo.proofs.learn_call.Statement.{statement}
+use native.Mathlib.Omega.{arith}
 use Rattle.memo.proofs.learn_call.Tie as tie
-use Rattle.memo.proofs.learn_call.Reads as reads
-use Rattle.memo.proofs.learn_call.Lts as lts
-use Rattle.image.proofs.node_word.Reads as node-word-reads
-use Rattle.memo.proofs.learn_method.Reads as learn-method-reads
 
--- src/lib.rt:175:23
 mul-at : tie.Need-mul-at
 mul-at c = search needs
 
--- src/lib.rt:175:14
 add-at : tie.Need-add-at
 add-at c = search needs
 
--- src/lib.rt:176:13
 node-word-requires : tie.Need-node-word-requires
 node-word-requires c κs = let q = c .before .before .before .before .pre in let n = fit-call _ (q .2) (q .3) in (q .0 .lay, omega (arith, q .4, n .0 .0, q .0 .lay .node-count), omega arith)
 
--- src/lib.rt:176:13
 cast-y : tie.Need-cast-y
 cast-y c = search needs
 
--- src/lib.rt:178:9
 learn-method-requires : tie.Need-learn-method-requires
 learn-method-requires c κs = let q = c .before .before .before .before .before .before .before .pre in let n = fit-call _ (q .2) (q .3) in (q .0, q .1, rw (q .4) (n .0), q .5, q .6)
 
--- src/lib.rt:179:9
 same-length : tie.Need-same-length
 same-length c = search needs
 
--- src/lib.rt:179:9
 returns : tie.Need-returns
 returns c = search needs
 
--- src/lib.rt:181:13
 add-if2 : tie.Need-add-if2
 add-if2 c = search needs
 
--- src/lib.rt:181:8
 mul-if2 : tie.Need-mul-if2
 mul-if2 c = search needs
 
--- src/lib.rt:181:8
 shared-slice-read-if2 : tie.Need-shared-slice-read-if2
 shared-slice-read-if2 c = search needs
 
--- src/lib.rt:182:51
 add-learn-method : tie.Need-add-learn-method
 add-learn-method c = search needs
 
--- src/lib.rt:182:46
 mul-learn-method : tie.Need-mul-learn-method
 mul-learn-method c = search needs
 
--- src/lib.rt:182:46
 shared-slice-read-learn-method : tie.Need-shared-slice-read-learn-method
 shared-slice-read-learn-method c = search needs
 
--- src/lib.rt:182:9
 learn-method-requires-2 : tie.Need-learn-method-requires-2
 unfolding kept
 learn-method-requires-2 c κs = let q = c .before .before .before .before .before .before .before .before .before .before .pre in let n = fit-call _ (q .2) (q .3) in (q .0, q .1, rw (q .4) (n .0), n .2 0 (omega (arith, c .before .before .before .before .if1 .left, c .before .before .if2 .taken)), q .6)
 
--- src/lib.rt:162:1
 same-length-2 : tie.Need-same-length-2
 same-length-2 c = search needs
 
--- src/lib.rt:162:1
 returns-2 : tie.Need-returns-2
 returns-2 c = search needs
 
--- src/lib.rt:162:1
 returns-3 : tie.Need-returns-3
 returns-3 c = search needs
 
