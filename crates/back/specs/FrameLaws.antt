@@ -9,6 +9,7 @@ use Rattle.image.specs.Nodes.{nodeWord, kindOf, operands, nodeHolds}
 use Rattle.laws.specs.Values.{IsValue}
 use Rattle.laws.specs.Trees.{operand-below}
 use Rattle.room.specs.Room.{first, second, shapeOf, word, tag, kept, IsNode, FrameOk, Fit}
+use Rattle.room.specs.RoomLaws.{fit-first, fit-second}
 use Rattle.back.specs.Comes.{First, Unheaped}
 
 module _ (ws room : List ℕ) (i : ℕ) (fit : Fit ws room (suc i)) where
@@ -16,11 +17,11 @@ module _ (ws room : List ℕ) (i : ℕ) (fit : Fit ws room (suc i)) where
   ok = fit .frame-ok i (omega arith)
 
   pub node-first : (k p : ℕ) → shapeOf k ≡ first → tag ws room i ≡ k → word ws room i 1 ≡ p → IsNode ws p k
-  node-first k p e t q = let o = rw (t, e, q) at ok in o
+  node-first k p e t q = rw q at (fit-first ws fit k e t)
 
   pub node-second : (k p : ℕ) → shapeOf k ≡ second → tag ws room i ≡ k → word ws room i 1 ≡ p
       → IsNode ws p (k - 16) × IsValue (word ws room i 2)
-  node-second k p e t q = let o = rw (t, e, q) at ok in o
+  node-second k p e t q = let o = fit-second ws fit k e t in (rw q at (o .0), o .1)
 
   pub node-test : (p : ℕ) → tag ws room i ≡ 13 → word ws room i 1 ≡ p → IsNode ws p 13
   unfolding shapeOf

@@ -1,2 +1,3 @@
 -- What lookups found, kept.
 pub mod Memo
+pub mod MemoLaws

@@ -114,7 +114,7 @@ module _ (ws hs : List ℕ) (name d w : ℕ) where
           let f = look-obj (program ws) hs (k .whole) a c z in
           record { reads = rw (e, f, n); writes = λ u. rw (e, f, n) }
 
-      spot-some : (i : ℕ) → fieldIndex (hasFields (program ws) c) d name ≡ some i → FieldSpot ws hs name d w (slotWords * a + 1 + i)
+      pub spot-some : (i : ℕ) → fieldIndex (hasFields (program ws) c) d name ≡ some i → FieldSpot ws hs name d w (slotWords * a + 1 + i)
       unfolding getRedex putRedex getSlot putSlot getField putField takenAt slotWordHolds
       spot-some i q =
           let P = program ws in

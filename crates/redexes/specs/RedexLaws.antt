@@ -181,14 +181,16 @@ pub params-count : (ws : List ℕ) (j : ℕ) → length (methodAt ws j .params) 
 unfolding methodAt typesFrom
 params-count ws j = length-tabulate _ _
 
--- A slot by its class word. Its class, where it has one, is the program's.
-module _ (ws hs : List ℕ) (l : Layout) (g : Good ws l) (k : Words (program ws) (classCount ws) hs) (a : ℕ) where
-  pub object-class : (first : ℕ) → first ≡ getD hs (slotWords * a) 0 → (first ≡ 0 → ⊥) → first - 1 < l .«class_count»
-  object-class zero e n = absurd (n refl)
-  object-class (suc c) e n =
-      let z : suc c - 1 ≡ c = omega arith in
-      rw (z, g .lay .class-count) (class-known (program ws) (classCount ws) hs k a c (sym e))
+-- A slot's class, where it has one, is the program's.
+pub object-class : (ws hs : List ℕ) (l : Layout) → Good ws l → Words (program ws) (classCount ws) hs → (a first : ℕ)
+    → first ≡ getD hs (slotWords * a) 0 → (first ≡ 0 → ⊥) → first - 1 < l .«class_count»
+object-class ws hs l g k a zero e n = absurd (n refl)
+object-class ws hs l g k a (suc c) e n =
+    let z : suc c - 1 ≡ c = omega arith in
+    rw (z, g .lay .class-count) (class-known (program ws) (classCount ws) hs k a c (sym e))
 
+-- A slot by its class word.
+module _ (ws hs : List ℕ) (k : Words (program ws) (classCount ws) hs) (a : ℕ) where
   slot-object : (first : ℕ) → first ≡ getD hs (slotWords * a) 0 → (first ≡ 0 → ⊥)
       → look (heapOf (program ws) hs) a ≡ obj (first - 1) (fieldsAt (program ws) hs a (first - 1))
   slot-object zero e n = absurd (n refl)

@@ -27,7 +27,7 @@ use Rattle.laws.specs.Frames.{Frame, castF, addR, eqR, assignF, getF, putR, blo
 use Rattle.room.specs.declared.Focus.{Focus}
 use Rattle.room.specs.declared.Focus.the-variants.{Node, Value as Word, Thrown}
 use Rattle.room.specs.Room.{searchWord, frameAt, held, storeOf, first, second, test, loop, shapeOf, begun, halfway, loaded, operandOf, frameOf, word, tag, kept, frame, frames, IsNode, Held, FrameOk}
-use Rattle.room.specs.RoomLaws.{Kept, kept-refl, kept-set, kept-store, kept-fit, frames-more, fit-more, fit-less, set-store, set-frames, set-fit}
+use Rattle.room.specs.RoomLaws.{Kept, kept-refl, kept-set, kept-store, kept-fit, frames-more, fit-first, fit-second, fit-call, fit-more, fit-less, set-store, set-frames, set-fit}
 use Rattle.room.specs.Stack.{Halts, goes-back, halts-back, assign-plain}
 use Rattle.room.specs.Turn.{HeapOk, focusOf, FocusOk, weight, behind, pending, finds, Inv, Moves, Steps}
 use Rattle.room.specs.Enter.{plugs-in, outers-in, pending-kept}
@@ -229,10 +229,10 @@ module _ (ws : List ℕ) (good : (n : ℕ) → n < nodeCount ws → nodeHolds ws
   ok = inv .fit .frame-ok i (omega arith)
 
   pub is-first : (k : ℕ) → shapeOf k ≡ first → tag ws room i ≡ k → IsNode ws (word ws room i 1) k
-  is-first k e t = let o = rw (t, e) at ok in o
+  is-first = fit-first ws (inv .fit)
 
   pub is-second : (k : ℕ) → shapeOf k ≡ second → tag ws room i ≡ k → IsNode ws (word ws room i 1) (k - 16) × IsValue (word ws room i 2)
-  is-second k e t = let o = rw (t, e) at ok in o
+  is-second = fit-second ws (inv .fit)
 
   pub is-while : (k : ℕ) → (shapeOf k ≡ test) ⊎ (shapeOf k ≡ loop) → tag ws room i ≡ k → IsNode ws (word ws room i 1) 13
   is-while k (inl e) t = let o = rw (t, e) at ok in o
@@ -241,8 +241,7 @@ module _ (ws : List ℕ) (good : (n : ℕ) → n < nodeCount ws → nodeHolds ws
   pub is-call : tag ws room i ≡ 9
       → IsNode ws (word ws room i 1) 9 × (word ws room i 2 ≤ nodeWord ws (word ws room i 1) 3)
       × ((k : ℕ) → k < word ws room i 2 → IsValue (kept ws room i k))
-  unfolding shapeOf
-  is-call t = let o = rw t at ok in o
+  is-call = fit-call ws (inv .fit)
 
   pub is-block : tag ws room i ≡ 10 → (word ws room i 2 < variables) × Held ws (word ws room i 4)
   unfolding shapeOf

@@ -3,7 +3,7 @@ use mathlib.Core.Path.{_≡_, refl, sym, _∙_, ap}
 use mathlib.Core.Bool.{Bool, true, false}
 use mathlib.Core.Option.{Option}
 use mathlib.Core.List.{List, _∷_}
-use Prim.Native.Nat.{ℕ, zero, suc, _+_, _≤_, _<_}
+use Prim.Native.Nat.{ℕ, zero, suc, _+_, _-_, _≤_, _<_}
 use native.Mathlib.Omega.{arith}
 use native.Mathlib.Decide.{ℕ-discrete}
 use lib.Dec.{ltb}
@@ -12,14 +12,16 @@ use lib.Seq.{getD-set-same, getD-set-other}
 use borrow.Author.Tests.{ltb-true, lt-ltb, eq-eqb, ne-eqb}
 use Rattle.words.specs.declared.Value.{Value}
 use Rattle.image.specs.Numbers.{variables}
+use Rattle.image.specs.Nodes.{nodeWord}
 use Rattle.words.specs.declared.Ty.{Ty}
 use Rattle.words.specs.Types.{typeOf}
 use Rattle.rules.specs.Maps.{upd}
 use Rattle.rules.specs.Trees.{Expr}
 use Rattle.rules.specs.Step.{Store, blocked}
+use Rattle.laws.specs.Values.{IsValue}
 use Rattle.laws.specs.Maps.{upd-same, upd-restore}
 use Rattle.laws.specs.Frames.{Frame, blockF, plug, outer, plugs, outers}
-use Rattle.room.specs.Room.{mostOperands, frameAt, held, storeOf, shapeOf, frameOf, word, tag, kept, frame, frames, Held, FrameOk, Fit}
+use Rattle.room.specs.Room.{mostOperands, frameAt, held, storeOf, first, second, shapeOf, frameOf, word, tag, kept, frame, frames, IsNode, Held, FrameOk, Fit}
 
 -- what stands below frame l is as it was
 pub record Kept (old new : List ℕ) (l : ℕ) : Type 0 where
@@ -155,6 +157,23 @@ module _ (ws : List ℕ) where
 pub fit-variable : {ws room : List ℕ} {i : ℕ} → Fit ws room (suc i) → tag ws room i ≡ 10 → word ws room i 2 < variables
 unfolding shapeOf
 fit-variable {ws} {room} {i} f t = let o = rw t at (f .frame-ok i (omega arith)) in o .0
+
+-- what the words of the last frame are, by its tag
+module _ (ws : List ℕ) {room : List ℕ} {i : ℕ} (fit : Fit ws room (suc i)) where
+  ok : FrameOk ws (shapeOf (tag ws room i)) (tag ws room i) (word ws room i 1) (word ws room i 2) (word ws room i 4) (kept ws room i)
+  ok = fit .frame-ok i (omega arith)
+
+  pub fit-first : (k : ℕ) → shapeOf k ≡ first → tag ws room i ≡ k → IsNode ws (word ws room i 1) k
+  fit-first k e t = let o = rw (t, e) at ok in o
+
+  pub fit-second : (k : ℕ) → shapeOf k ≡ second → tag ws room i ≡ k → IsNode ws (word ws room i 1) (k - 16) × IsValue (word ws room i 2)
+  fit-second k e t = let o = rw (t, e) at ok in o
+
+  pub fit-call : tag ws room i ≡ 9
+      → IsNode ws (word ws room i 1) 9 × (word ws room i 2 ≤ nodeWord ws (word ws room i 1) 3)
+      × ((k : ℕ) → k < word ws room i 2 → IsValue (kept ws room i k))
+  unfolding shapeOf
+  fit-call t = let o = rw t at ok in o
 
 -- a frame's tag and place written
 unfoldable pub push : List ℕ → (l tag p : ℕ) → List ℕ

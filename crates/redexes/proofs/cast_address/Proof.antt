@@ -10,7 +10,7 @@ slot-class-requires : tie.Need-slot-class-requires
 slot-class-requires c κs = search needs
 
 returns : tie.Need-returns
-returns c = let p = c .before .before .before .before .pre in (cast-free _ _ _ (p .0) (p .1) _ _ (c .before .slot-class .ensures) _ (c .if1 .taken), tt)
+returns c = let p = c .before .before .before .before .pre in (cast-free _ _ (p .1) _ _ (c .before .slot-class .ensures) _ (c .if1 .taken), tt)
 
 sub-d : tie.Need-sub-d
 sub-d c = search needs
@@ -19,10 +19,10 @@ is-subclass-requires : tie.Need-is-subclass-requires
 is-subclass-requires c κs = let p = c .before .before .before .before .pre in (p .0, object-class _ _ _ (p .0) (p .1) _ _ (c .before .slot-class .ensures) (c .if1 .left))
 
 returns-2 : tie.Need-returns-2
-returns-2 c = let p = c .before .before .before .before .before .before .pre in (cast-below _ _ _ (p .0) (p .1) _ _ (c .before .before .before .slot-class .ensures) _ _ (c .before .before .if1 .left) (sym (c .before .is-subclass .ensures) ∙ c .if2 .taken) (p .3), p .4)
+returns-2 c = let p = c .before .before .before .before .before .before .pre in (cast-below _ _ (p .1) _ _ (c .before .before .before .slot-class .ensures) _ _ (c .before .before .if1 .left) (sym (c .before .is-subclass .ensures) ∙ c .if2 .taken) (p .3), p .4)
 
 returns-3 : tie.Need-returns-3
-returns-3 c = let p = c .before .before .before .before .before .before .pre in (cast-other _ _ _ (p .0) (p .1) _ _ (c .before .before .before .slot-class .ensures) _ (c .before .before .if1 .left) (sym (c .before .is-subclass .ensures) ∙ c .if2 .left), omega arith)
+returns-3 c = let p = c .before .before .before .before .before .before .pre in (cast-other _ _ (p .1) _ _ (c .before .before .before .slot-class .ensures) _ (c .before .before .if1 .left) (sym (c .before .is-subclass .ensures) ∙ c .if2 .left), omega arith)
 
 pub cast-address-spec : {M : Type 1} → statement M
 cast-address-spec =

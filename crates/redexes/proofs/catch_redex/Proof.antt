@@ -9,7 +9,7 @@ slot-class-requires : tie.Need-slot-class-requires
 slot-class-requires c κs = search needs
 
 returns : tie.Need-returns
-returns c = let p = c .before .before .before .before .pre in catch-free _ _ _ (p .0) (p .1) _ _ (c .before .slot-class .ensures) _ (c .if1 .taken)
+returns c = let p = c .before .before .before .before .pre in catch-free _ _ (p .1) _ _ (c .before .slot-class .ensures) _ (c .if1 .taken)
 
 sub-d : tie.Need-sub-d
 sub-d c = search needs
@@ -18,10 +18,10 @@ is-subclass-requires : tie.Need-is-subclass-requires
 is-subclass-requires c κs = let p = c .before .before .before .before .pre in (p .0, object-class _ _ _ (p .0) (p .1) _ _ (c .before .slot-class .ensures) (c .if1 .left))
 
 returns-2 : tie.Need-returns-2
-returns-2 c = let p = c .before .before .before .before .before .before .pre in catch-below _ _ _ (p .0) (p .1) _ _ (c .before .before .before .slot-class .ensures) _ (c .before .before .if1 .left) (sym (c .before .is-subclass .ensures) ∙ c .if2 .taken)
+returns-2 c = let p = c .before .before .before .before .before .before .pre in catch-below _ _ (p .1) _ _ (c .before .before .before .slot-class .ensures) _ (c .before .before .if1 .left) (sym (c .before .is-subclass .ensures) ∙ c .if2 .taken)
 
 returns-3 : tie.Need-returns-3
-returns-3 c = let p = c .before .before .before .before .before .before .pre in catch-other _ _ _ (p .0) (p .1) _ _ (c .before .before .before .slot-class .ensures) _ (c .before .before .if1 .left) (sym (c .before .is-subclass .ensures) ∙ c .if2 .left)
+returns-3 c = let p = c .before .before .before .before .before .before .pre in catch-other _ _ (p .1) _ _ (c .before .before .before .slot-class .ensures) _ (c .before .before .if1 .left) (sym (c .before .is-subclass .ensures) ∙ c .if2 .left)
 
 pub catch-redex-spec : {M : Type 1} → statement M
 catch-redex-spec =
