@@ -1,0 +1,208 @@
+-- Laws of nodes whose value is known where they stand.
+use mathlib.Core.Path.{_≡_, refl, sym, _∙_}
+use mathlib.Core.Bool.{true, _&&_}
+use mathlib.Core.List.{List}
+use mathlib.Core.Logic.{inl, inr}
+use Prim.Native.Nat.{ℕ, suc, _+_, _*_, _-_, _^_, _≤_, _<_}
+use native.Mathlib.Omega.{arith}
+use lib.Dec.{ltb}
+use lib.ListN.{length, getD, set, length-set}
+use lib.Seq.{getD-set-same, getD-set-other}
+use Rattle.words.specs.Value.{valueWith, valueOf, isValue}
+use Rattle.words.specs.ValueLaws.{tag-of, payload-of}
+use Rattle.image.specs.declared.Layout.{Layout}
+use Rattle.image.specs.Laws.{and-left, and-right}
+use Rattle.image.specs.Numbers.{variables, writtenTags}
+use Rattle.image.specs.Trailer.{classCount, nodeCount}
+use Rattle.image.specs.Nodes.{nodeWord, kindOf, operands, namesHold, nodeHolds}
+use Rattle.image.specs.Layout.{Good}
+use Rattle.rules.specs.Trees.{written, operand}
+use Rattle.rules.specs.Program.{program}
+use Rattle.rules.specs.Heap.{heapOf}
+use Rattle.rules.specs.Step.{gives, getRedex}
+use Rattle.laws.specs.Values.{valueAt, IsValue}
+use Rattle.laws.specs.Trees.{operandCount, operand-below, operand-after, operand-none}
+use Rattle.room.specs.declared.Focus.{Focus}
+use Rattle.room.specs.declared.Focus.the-variants.{Node, Value as Word}
+use Rattle.room.specs.Room.{searchWord, frameAt, first, shapeOf, word, tag, Fit}
+use Rattle.room.specs.RoomLaws.{Kept, kept-refl, kept-set, kept-lower, push, push-kept, push-tag, push-place}
+use Rattle.room.specs.Turn.{HeapOk, Inv, Moves, Steps}
+use Rattle.room.specs.Enter.{enter-value, enter-first}
+use Rattle.room.specs.Nodes.{var-local, var-steps}
+use Rattle.room.specs.Back as back
+use Rattle.room.specs.Leads.{Leads, Leaps}
+use Rattle.room.specs.LeadsLaws.{leaps-move, leaps-step, leaps-on, leads-on, leaps-kept}
+use Rattle.quick.specs.declared.Quick.{Quick}
+use Rattle.quick.specs.Known.{Tabled, Stored, Locals, Eval, Known, Valued, IsPair, Gives, Paired, Field}
+
+-- an accepted image's table
+pub tabled : {ws : List ℕ} {lay : Layout} → Good ws lay → Tabled ws (lay .nodes)
+tabled {ws} {lay} g =
+    record {
+      nodes-at = g .lay .nodes-at;
+      within = rw (← g .lay .node-count) (omega (arith, g .lay .whole));
+      small = rw (← g .lay .node-count) (g .small .nodes);
+      holds = g .nodes;
+    }
+
+-- the variables of a room that fits
+pub stored : {ws room : List ℕ} {l : ℕ} → Fit ws room l → Stored ws room
+stored {ws} {room} {l} f = record { long = omega (arith, f .long); held-ok = f .held-ok }
+
+kept-locals : {old new : List ℕ} {l : ℕ} → Kept old new l → Locals old new
+kept-locals k x h = k .same x (omega arith)
+
+locals-on : (a b c : List ℕ) → Locals a b → Locals b c → Locals a c
+locals-on a b c s t x h = t x h ∙ s x h
+
+kept-back : {old new : List ℕ} {l : ℕ} → Kept old new l → Kept new old l
+kept-back k = record { size = sym (k .size); same = λ j h. sym (k .same j h) }
+
+kept-on : {a b c : List ℕ} {l : ℕ} → Kept a b l → Kept b c l → Kept a c l
+kept-on s t = record { size = t .size ∙ s .size; same = λ j h. t .same j h ∙ s .same j h }
+
+-- the word of a literal's value
+module _ (ws : List ℕ) (n : ℕ) (h : nodeHolds ws n ≡ true) (k : nodeWord ws n 0 ≡ 2) where
+  literal-names : (ltb (nodeWord ws n 2) writtenTags && isValue (nodeWord ws n 2) (nodeWord ws n 3)) ≡ true
+  unfolding nodeHolds namesHold kindOf
+  literal-names =
+      rw k at (and-left (namesHold (classCount ws) (kindOf (nodeWord ws n 0)) (nodeWord ws n 2) (nodeWord ws n 3)) _ h)
+
+  module _ (x y : ℕ) (ex : x ≡ nodeWord ws n 2) (ey : y ≡ nodeWord ws n 3) (b : y < 2 ^ 32) where
+    pub literal-is : valueAt (x * 2 ^ 32 + y) ≡ written (valueWith (nodeWord ws n 2) (nodeWord ws n 3))
+    unfolding valueOf
+    literal-is = rw (tag-of x y b, payload-of x y b, ex, ey)
+
+    pub literal-value : IsValue (x * 2 ^ 32 + y)
+    unfolding valueOf isValue
+    literal-value =
+        rw (tag-of x y b, payload-of x y b, ex, ey)
+        (and-right (ltb (nodeWord ws n 2) writtenTags) (isValue (nodeWord ws n 2) (nodeWord ws n 3)) literal-names)
+
+module _ (ws : List ℕ) (nodes : (n : ℕ) → n < nodeCount ws → nodeHolds ws n ≡ true) (hs room : List ℕ) where
+  pub eval-deeper : {n w k d e : ℕ} → d ≤ e → Eval ws hs room n w k d → Eval ws hs room n w k e
+  eval-deeper {n} {w} {k} {d} {e} h v =
+      record { is-value = v .is-value; leaps = λ D r l s i o m. v .leaps D r l s i o (omega arith) }
+
+  pub eval-literal : (n w : ℕ) → nodeWord ws n 0 ≡ 2 → valueAt w ≡ written (valueWith (nodeWord ws n 2) (nodeWord ws n 3)) → IsValue w
+      → Eval ws hs room n w 0 0
+  eval-literal n w e q v =
+      record { is-value = v; leaps = λ D r l s i o m. leaps-move ws D o (enter-value ws nodes D r l n i w e q v) }
+
+  pub eval-var : (n w : ℕ) → n < nodeCount ws → nodeWord ws n 0 ≡ 3 → getD room (nodeWord ws n 2) 0 ≡ suc w → IsValue w
+      → Eval ws hs room n w 1 0
+  eval-var n w h e q v =
+      record {
+        is-value = v;
+        leaps =
+            λ D r l s i o m.
+            leaps-step ws D
+            (var-steps ws nodes D hs r l n i w (omega arith) e (s (nodeWord ws n 2) (var-local ws n (nodes n h) e) ∙ q) o);
+      }
+
+  -- The room of a node that has been gone into, and what was there stays below.
+  module _ (D : ℕ) (r : List ℕ) (l n t : ℕ) (inv : Inv ws D r l (Node n)) (low : l ≤ D) (is : nodeWord ws n 0 ≡ t) where
+    abbrev pushed : List ℕ
+    pushed = push r l t n
+
+    pushed-tag : tag ws pushed l ≡ t
+    pushed-tag = push-tag ws r l t n (omega (arith, inv .long))
+
+    pushed-place : word ws pushed l 1 ≡ n
+    pushed-place = push-place ws r l t n (omega (arith, inv .long))
+
+    pushed-locals : Locals room r → Locals room pushed
+    pushed-locals s = locals-on room r pushed s (kept-locals (push-kept ws r l t n))
+
+    goes-in : (j : ℕ) → shapeOf t ≡ first → suc j ≡ operandCount ws n → Moves ws D r l (Node n) pushed (suc l) (Node (operand ws n j))
+    goes-in j h e = rw is at (enter-first ws nodes D r l n inv low j (rw is h) e)
+
+  pub eval-get : (n w u k d : ℕ) → nodeWord ws n 0 ≡ 7 → Eval ws hs room (operand ws n 0) w k d
+      → getRedex (program ws) (heapOf (program ws) hs) (nodeWord ws n 2) (nodeWord ws n 3) (valueAt w)
+      ≡ gives (heapOf (program ws) hs) (valueAt u)
+      → IsValue u → Eval ws hs room n u (k + 1) (suc d)
+  unfolding shapeOf kindOf operands
+  eval-get n w u k d e v g z = record { is-value = z; leaps = get-leaps }
+    where
+      get-leaps : (D : ℕ) (r : List ℕ) (l : ℕ) → Locals room r → Inv ws D r l (Node n) → HeapOk ws hs (getD r searchWord 0)
+          → l + suc d ≤ D → Leaps ws D (k + 1) hs r l (Node n) hs r l (Word u)
+      get-leaps D r l s i o m =
+          let low : l ≤ D = omega arith in
+          let new = push r l 7 n in
+          let a = leaps-move ws D o (goes-in D r l n 7 i low e 0 refl (rw e)) in
+          let b = v .leaps D new (suc l) (pushed-locals D r l n 7 i low e s) (a .leads .inv) (a .leads .heap) (omega arith) in
+          let q = pushed-place D r l n 7 i low e in
+          let c =
+              leaps-step ws D
+              (back.redex-gives ws nodes D hs new l w (b .leads .inv) _ _ _
+              (back.back-get ws nodes D hs new l w (b .leads .inv) (pushed-tag D r l n 7 i low e)) hs u (rw q g) z (b .leads .heap)) in
+          let k0 : 0 + k + 1 ≡ k + 1 = omega arith in
+          rw k0 at
+          (leaps-kept ws D (leaps-on ws D (leaps-on ws D a (b .leads)) (c .leads)) (kept-back (push-kept ws r l 7 n)))
+
+  -- an Add or an Eq goes on to its second operand, and comes to its value
+  pair-count : (n t : ℕ) → IsPair t → nodeWord ws n 0 ≡ t → operandCount ws n ≡ 2
+  unfolding kindOf operands
+  pair-count n t (inl e) q = rw (q, e)
+  pair-count n t (inr e) q = rw (q, e)
+
+  pair-first : (t : ℕ) → IsPair t → shapeOf t ≡ first
+  unfolding shapeOf
+  pair-first t (inl e) = rw e
+  pair-first t (inr e) = rw e
+
+  abbrev halved : (r : List ℕ) (l t v : ℕ) → List ℕ
+  halved r l t v = set (set r (frameAt l) (t + 16)) (frameAt l + 2) v
+
+  module _ (D : ℕ) (r : List ℕ) (l t v : ℕ) (inv : Inv ws D r (suc l) (Word v)) where
+    halved-kept : Kept r (halved r l t v) l
+    halved-kept = kept-set (frameAt l + 2) v (omega arith) (kept-set (frameAt l) (t + 16) (omega arith) (kept-refl r l))
+
+    halved-tag : tag ws (halved r l t v) l ≡ t + 16
+    halved-tag =
+        getD-set-other (set r (frameAt l) (t + 16)) (frameAt l + 2) (frameAt l) v 0 (λ e. let q : frameAt l ≡ frameAt l + 2 = e in omega arith)
+        ∙ getD-set-same r (frameAt l) (t + 16) 0 (omega (arith, inv .fit .long))
+
+    halved-value : word ws (halved r l t v) l 2 ≡ v
+    halved-value = getD-set-same (set r (frameAt l) (t + 16)) (frameAt l + 2) v 0 (rw length-set (omega (arith, inv .fit .long)))
+
+    pair-moves : IsPair t → tag ws r l ≡ t
+        → Moves ws D r (suc l) (Word v) (halved r l t v) (suc l) (Node (operand ws (word ws r l 1) 0))
+    pair-moves (inl e) q = rw e (back.add-moves ws nodes D hs r l v inv (q ∙ e))
+    pair-moves (inr e) q = rw e (back.eq-moves ws nodes D hs r l v inv (q ∙ e))
+
+  pair-steps : (D : ℕ) (r : List ℕ) (l t v w u : ℕ) → Inv ws D r (suc l) (Word w) → HeapOk ws hs (getD r searchWord 0)
+      → tag ws r l ≡ t + 16 → word ws r l 2 ≡ v → Gives t v w u → IsValue u → Steps ws D hs r (suc l) (Word w) hs r l (Word u)
+  pair-steps D r l t v w u i o q a (inl (e, g)) z =
+      back.redex-gives ws nodes D hs r l w i _ _ _ (back.back-add ws nodes D hs r l w i (q ∙ rw e)) hs u (rw a (g _)) z o
+  pair-steps D r l t v w u i o q a (inr (e, g)) z =
+      back.redex-gives ws nodes D hs r l w i _ _ _ (back.back-eq ws nodes D hs r l w i (q ∙ rw e)) hs u (rw a (g _)) z o
+
+  pub eval-pair : (n t v w u j k d : ℕ) → IsPair t → nodeWord ws n 0 ≡ t → Eval ws hs room (operand ws n 1) v j d
+      → Eval ws hs room (operand ws n 0) w k d → Gives t v w u → IsValue u → Eval ws hs room n u (j + k + 1) (suc d)
+  eval-pair n t v w u j k d p e x y g z = record { is-value = z; leaps = pair-leaps }
+    where
+      pair-leaps : (D : ℕ) (r : List ℕ) (l : ℕ) → Locals room r → Inv ws D r l (Node n) → HeapOk ws hs (getD r searchWord 0)
+          → l + suc d ≤ D → Leaps ws D (j + k + 1) hs r l (Node n) hs r l (Word u)
+      pair-leaps D r l s i o m =
+          let low : l ≤ D = omega arith in
+          let r1 = push r l t n in
+          let r2 = halved r1 l t v in
+          let s1 = pushed-locals D r l n t i low e s in
+          let c1 = push-kept ws r l t n in
+          let a = leaps-move ws D o (goes-in D r l n t i low e 1 (pair-first t p) (rw (pair-count n t p e))) in
+          let b = x .leaps D r1 (suc l) s1 (a .leads .inv) (a .leads .heap) (omega arith) in
+          let i1 = b .leads .inv in
+          let c2 = halved-kept D r1 l t v i1 in
+          let f =
+              rw (pushed-place D r l n t i low e) at
+              (leaps-move ws D (b .leads .heap) (pair-moves D r1 l t v i1 p (pushed-tag D r l n t i low e))) in
+          let h = y .leaps D r2 (suc l) (locals-on room r1 r2 s1 (kept-locals c2)) (f .leads .inv) (f .leads .heap) (omega arith) in
+          let c =
+              leaps-step ws D
+              (pair-steps D r2 l t v w u (h .leads .inv) (h .leads .heap) (halved-tag D r1 l t v i1) (halved-value D r1 l t v i1) g z) in
+          let k0 : 0 + j + (0 + k) + 1 ≡ j + k + 1 = omega arith in
+          rw k0 at
+          (leaps-kept ws D
+          (leaps-on ws D (leaps-on ws D (leaps-on ws D a (b .leads)) (leads-on ws D (f .leads) (h .leads))) (c .leads))
+          (kept-back (kept-on c1 c2)))
