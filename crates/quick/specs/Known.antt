@@ -8,6 +8,7 @@ use lib.ListN.{length, getD}
 use Rattle.image.specs.Numbers.{mostNodes, variables}
 use Rattle.image.specs.Trailer.{trailer, nodeCount}
 use Rattle.image.specs.Nodes.{nodeWord, nodeHolds}
+use Rattle.rules.specs.Trees.{operand}
 use Rattle.rules.specs.Program.{program}
 use Rattle.rules.specs.Heap.{Heap, heapOf}
 use Rattle.rules.specs.Step.{gives, addRedex, eqRedex, getRedex}
@@ -91,3 +92,9 @@ pub record Fetched (ws hs : List ℕ) (p : ℕ) (q r : Quick) (u : ℕ) : Type 0
 pub record Field (ws hs : List ℕ) (p : ℕ) (q r : Quick) : Type 0 where
   pub few : r .steps ≤ q .steps + 1
   pub fetched : (u : ℕ) → r .held ≡ suc u → Fetched ws hs p q r u
+
+-- Node r is n itself, or n is an Add or an Eq and r is an operand of it, the first one where it does not stand right before n.
+pub record Deep (ws : List ℕ) (kind n r : ℕ) : Type 0 where
+  pub within : r < nodeCount ws
+  pub is : (r ≡ n → ⊥) → IsPair kind
+  pub first : (r ≡ n → ⊥) → (suc r ≡ n → ⊥) → r ≡ operand ws n 1

@@ -1,13 +1,15 @@
 -- Laws of nodes whose value is known where they stand.
 use mathlib.Core.Path.{_≡_, refl, sym, _∙_}
-use mathlib.Core.Bool.{true, _&&_}
+use mathlib.Core.Bool.{Bool, true, false, not, _&&_, _||_}
 use mathlib.Core.List.{List}
 use mathlib.Core.Logic.{inl, inr}
-use Prim.Native.Nat.{ℕ, suc, _+_, _*_, _-_, _^_, _≤_, _<_}
+use Prim.Native.Nat.{ℕ, suc, _+_, _*_, _-_, _/_, _%_, _^_, _≤_, _<_}
 use native.Mathlib.Omega.{arith}
-use lib.Dec.{ltb}
+use lib.Dec.{eqb, ltb}
 use lib.ListN.{length, getD, set, length-set}
 use lib.Seq.{getD-set-same, getD-set-other}
+use borrow.Author.Tests.{eqb-true, eqb-false}
+use Rattle.words.specs.declared.Value.{Value}
 use Rattle.words.specs.Value.{valueWith, valueOf, isValue}
 use Rattle.words.specs.ValueLaws.{tag-of, payload-of}
 use Rattle.image.specs.declared.Layout.{Layout}
@@ -19,9 +21,13 @@ use Rattle.image.specs.Layout.{Good}
 use Rattle.rules.specs.Trees.{written, operand}
 use Rattle.rules.specs.Program.{program}
 use Rattle.rules.specs.Heap.{heapOf}
-use Rattle.rules.specs.Step.{gives, getRedex}
+use Rattle.rules.specs.Step.{gives, sameValue, eqRedex, getRedex}
 use Rattle.laws.specs.Values.{valueAt, IsValue}
 use Rattle.laws.specs.Trees.{operandCount, operand-below, operand-after, operand-none}
+use Rattle.laws.specs.Tags.{word-low}
+use Rattle.redexes.specs.Outcomes.{redexOf}
+use Rattle.redexes.specs.RedexLaws.{add-sum, add-word}
+use Rattle.objects.specs.Spots.{FieldSpot}
 use Rattle.room.specs.declared.Focus.{Focus}
 use Rattle.room.specs.declared.Focus.the-variants.{Node, Value as Word}
 use Rattle.room.specs.Room.{searchWord, frameAt, first, shapeOf, word, tag, Fit}
@@ -33,7 +39,7 @@ use Rattle.room.specs.Back as back
 use Rattle.room.specs.Leads.{Leads, Leaps}
 use Rattle.room.specs.LeadsLaws.{leaps-move, leaps-step, leaps-on, leads-on, leaps-kept}
 use Rattle.quick.specs.declared.Quick.{Quick}
-use Rattle.quick.specs.Known.{Tabled, Stored, Locals, Eval, Known, Valued, IsPair, Gives, Paired, Field}
+use Rattle.quick.specs.Known.{Tabled, Stored, Locals, Eval, Known, Valued, IsPair, Gives, Paired, Field, Deep}
 
 -- an accepted image's table
 pub tabled : {ws : List ℕ} {lay : Layout} → Good ws lay → Tabled ws (lay .nodes)
@@ -206,3 +212,194 @@ module _ (ws : List ℕ) (nodes : (n : ℕ) → n < nodeCount ws → nodeHolds w
           (leaps-kept ws D
           (leaps-on ws D (leaps-on ws D (leaps-on ws D a (b .leads)) (leads-on ws D (f .leads) (h .leads))) (c .leads))
           (kept-back (kept-on c1 c2)))
+
+  -- what answers say
+  pub known-none : (n d : ℕ) (q : Quick) → q .held ≡ 0 → q .steps ≡ 0 → Known ws hs room n d q
+  known-none n d q e z = record { few = omega arith; eval = λ w f. absurd (omega arith) }
+
+  pub known-deeper : {n d e : ℕ} {q : Quick} → d ≤ e → Known ws hs room n d q → Known ws hs room n e q
+  known-deeper {n} {d} {e} {q} h a = record { few = omega (arith, a .few); eval = λ w f. eval-deeper h (a .eval w f) }
+
+  pub known-at : {m n d : ℕ} {q : Quick} → m ≡ n → Known ws hs room m d q → Known ws hs room n d q
+  known-at e a = rw (← e) a
+
+  -- a node's last operand stands right before it
+  pub known-last : (n : ℕ) {m d : ℕ} {q : Quick} → m ≡ n - 1 → Known ws hs room m d q → Known ws hs room (operand ws n 0) d q
+  unfolding operand
+  known-last n e a = known-at e a
+
+  pub known-valued : {n d : ℕ} {q : Quick} → Known ws hs room n d q → Valued q
+  known-valued a w f = a .eval w f .is-value
+
+  pub known-get : {n d : ℕ} {q r : Quick} → nodeWord ws n 0 ≡ 7 → Known ws hs room (operand ws n 0) d q → Field ws hs n q r
+      → Known ws hs room n (suc d) r
+  known-get {n} {d} {q} {r} e a f =
+      record {
+        few = omega (arith, a .few, f .few);
+        eval =
+            λ u h.
+            let g = f .fetched u h in
+            rw (g .steps) (eval-get n (g .object) u (q .steps) d e (a .eval (g .object) (g .object-held)) (g .reads) (g .is-value));
+      }
+
+  pub known-pair : {n t c d : ℕ} {a b r : Quick} → IsPair t → nodeWord ws n 0 ≡ t → Known ws hs room (operand ws n 1) c a
+      → Known ws hs room (operand ws n 0) d b → Paired t a b r → Known ws hs room n (suc (c + d)) r
+  known-pair {n} {t} {c} {d} {a} {b} {r} p e x y f =
+      record {
+        few = omega (arith, x .few, y .few, f .few);
+        eval =
+            λ u h.
+            let g = f .made u h in
+            rw (g .steps)
+            (eval-pair n t (g .left) (g .right) u (a .steps) (b .steps) (c + d) p e
+            (eval-deeper (omega arith) (x .eval (g .left) (g .left-held)))
+            (eval-deeper (omega arith) (y .eval (g .right) (g .right-held))) (g .sums) (g .is-value));
+      }
+
+  pub known-literal : (n w : ℕ) → nodeWord ws n 0 ≡ 2 → valueAt w ≡ written (valueWith (nodeWord ws n 2) (nodeWord ws n 3)) → IsValue w
+      → Known ws hs room n 0 (record { held = w + 1; steps = 0 })
+  known-literal n w e q v =
+      record { few = omega arith; eval = λ u f. let z : u ≡ w = omega arith in rw z (eval-literal n w e q v) }
+
+  pub known-var : (n x : ℕ) → n < nodeCount ws → nodeWord ws n 0 ≡ 3 → x ≡ nodeWord ws n 2 → Stored ws room
+      → Known ws hs room n 0 (record { held = getD room x 0; steps = 1 })
+  known-var n x h e q s =
+      record {
+        few = omega arith;
+        eval =
+            λ u f.
+            let m = var-local ws n (nodes n h) e in
+            let g : getD room (nodeWord ws n 2) 0 ≡ suc u = rw (← q) f in
+            eval-var n u h e g (rw g at (s .held-ok (nodeWord ws n 2) m));
+      }
+
+-- operands of an Add or an Eq
+module _ (ws : List ℕ) (n : ℕ) where
+  pub pair-two : {t : ℕ} → IsPair t → nodeWord ws n 0 ≡ t → 1 < operandCount ws n
+  unfolding kindOf operands
+  pair-two (inl e) q = rw (q, e) (omega arith)
+  pair-two (inr e) q = rw (q, e) (omega arith)
+
+  pub get-one : nodeWord ws n 0 ≡ 7 → 0 < operandCount ws n
+  unfolding kindOf operands
+  get-one q = rw q (omega arith)
+
+  pub last-operand : operand ws n 0 ≡ n - 1
+  unfolding operand
+  last-operand = refl
+
+  -- the first of two stands before the tree of the second
+  pub first-place : nodeHolds ws n ≡ true → 1 < operandCount ws n → suc (operand ws n 1) + nodeWord ws (n - 1) 1 ≡ n
+  first-place h o =
+      omega (arith, rw last-operand at (operand-after ws n h 0 (omega arith)), operand-below ws n h 0 (omega arith))
+
+  -- the node to look deeper into
+  pub deep-self : (kind : ℕ) → n < nodeCount ws → Deep ws kind n n
+  deep-self kind h = record { within = h; is = λ d. absurd (d refl); first = λ d. absurd (d refl) }
+
+  module _ (kind : ℕ) (within : n < nodeCount ws) (h : nodeHolds ws n ≡ true) (p : IsPair kind) (e : nodeWord ws n 0 ≡ kind) where
+    pub deep-last : Deep ws kind n (n - 1)
+    deep-last =
+        record {
+          within = omega arith;
+          is = λ d. p;
+          first = λ d s. absurd (s (omega (arith, first-place h (pair-two p e))));
+        }
+
+    pub deep-first : nodeWord ws (n - 1) 1 ≡ 1 → Deep ws kind n (n - 2)
+    deep-first o =
+        record { within = omega arith; is = λ d. p; first = λ d s. omega (arith, first-place h (pair-two p e)) }
+
+-- tests of kinds
+pub either-kind : (k : ℕ) → (eqb k 4 || eqb k 5) ≡ true → IsPair k
+either-kind k = go (eqb k 4) refl
+  where
+    go : (t : Bool) → eqb k 4 ≡ t → (t || eqb k 5) ≡ true → IsPair k
+    go true e h = inl (eqb-true k 4 e)
+    go false e h = inr (eqb-true k 5 h)
+
+pub not-neither : (k : ℕ) → (not (eqb k 4) && not (eqb k 5)) ≡ false → IsPair k
+not-neither k = go (eqb k 4) refl (eqb k 5) refl
+  where
+    go : (s : Bool) → eqb k 4 ≡ s → (t : Bool) → eqb k 5 ≡ t → (not s && not t) ≡ false → IsPair k
+    go true e t f h = inl (eqb-true k 4 e)
+    go false e true f h = inr (eqb-true k 5 f)
+    go false e false f h = absurd (let z : _≡_ {A = ℕ} 0 1 = cc in omega arith)
+
+pub not-eq : {k : ℕ} → IsPair k → (k ≡ 5 → ⊥) → k ≡ 4
+not-eq (inl e) d = e
+not-eq (inr e) d = absurd (d e)
+
+-- neither is 0
+pub both-held : (a b : ℕ) → (eqb a 0 || eqb b 0) ≡ false → (a ≡ 0 → ⊥) × (b ≡ 0 → ⊥)
+both-held a b = go (eqb a 0) refl
+  where
+    go : (t : Bool) → eqb a 0 ≡ t → (t || eqb b 0) ≡ false → (a ≡ 0 → ⊥) × (b ≡ 0 → ⊥)
+    go true e h = absurd (let z : _≡_ {A = ℕ} 0 1 = cc in omega arith)
+    go false e h = (eqb-false a 0 e, eqb-false b 0 h)
+
+-- the answer for a pair
+pub paired-none : (kind : ℕ) (a b r : Quick) → r .held ≡ 0 → r .steps ≡ 0 → Paired kind a b r
+paired-none kind a b r e z = record { few = omega arith; made = λ u h. absurd (omega arith) }
+
+module _ (kind : ℕ) (a b : Quick) (va : Valued a) (vb : Valued b) (some : (a .held ≡ 0 → ⊥) × (b .held ≡ 0 → ⊥)) where
+  pub left-value : IsValue (a .held - 1)
+  left-value = let n = some .0 in va (a .held - 1) (omega arith)
+
+  pub right-value : IsValue (b .held - 1)
+  right-value = let n = some .1 in vb (b .held - 1) (omega arith)
+
+  pub both-low : (a .held - 1) + (b .held - 1) < 2 ^ 64
+  both-low = omega (arith, word-low (a .held - 1) left-value, word-low (b .held - 1) right-value)
+
+  paired : (u : ℕ) → IsValue u → Gives kind (a .held - 1) (b .held - 1) u
+      → Paired kind a b (record { held = u + 1; steps = a .steps + b .steps + 1 })
+  paired u v g =
+      record {
+        few = omega arith;
+        made =
+            λ x e.
+            let z : x ≡ u = omega arith in
+            let m = some .0 in
+            let n = some .1 in
+            record {
+              left = a .held - 1;
+              right = b .held - 1;
+              left-held = omega arith;
+              right-held = omega arith;
+              is-value = rw z v;
+              steps = refl;
+              sums = rw z g;
+            };
+      }
+
+  pub paired-eq : (u : ℕ) → kind ≡ 5 → valueAt u ≡ Value.Bool (sameValue (valueAt (a .held - 1)) (valueAt (b .held - 1))) → IsValue u
+      → Paired kind a b (record { held = u + 1; steps = a .steps + b .steps + 1 })
+  unfolding eqRedex
+  paired-eq u k e v = paired u v (inr (k, λ h. rw e))
+
+  pub paired-add : kind ≡ 4 → (eqb ((a .held - 1) / 2 ^ 32) 3 && eqb ((b .held - 1) / 2 ^ 32) 3) ≡ true
+      → Paired kind a b (record { held = 3 * 2 ^ 32 + ((a .held - 1) + (b .held - 1)) % 2 ^ 32 + 1; steps = a .steps + b .steps + 1 })
+  unfolding redexOf
+  paired-add k e =
+      paired _ (add-word (a .held - 1) (b .held - 1) left-value right-value)
+      (inl (k, λ h. sym (add-sum (a .held - 1) (b .held - 1) left-value right-value e h)))
+
+-- the answer for a Get
+module _ (ws hs : List ℕ) (p : ℕ) (q : Quick) where
+  pub field-none : (r : Quick) → r .held ≡ 0 → r .steps ≡ 0 → Field ws hs p q r
+  field-none r e z = record { few = omega arith; fetched = λ u h. absurd (omega arith) }
+
+  pub field-at : (j : ℕ) → (q .held ≡ 0 → ⊥) → FieldSpot ws hs (nodeWord ws p 2) (nodeWord ws p 3) (q .held - 1) j
+      → Field ws hs p q (record { held = getD hs j 0 + 1; steps = q .steps + 1 })
+  field-at j n s =
+      record {
+        few = omega arith;
+        fetched =
+            λ u e.
+            let z : u ≡ getD hs j 0 = omega arith in
+            record { object = q .held - 1; object-held = omega arith; is-value = rw z (s .holds); steps = refl; reads = rw z (s .reads) };
+      }
+
+  pub object-value : Valued q → (q .held ≡ 0 → ⊥) → IsValue (q .held - 1)
+  object-value v n = v (q .held - 1) (omega arith)
