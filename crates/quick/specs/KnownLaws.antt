@@ -6,7 +6,7 @@ use mathlib.Core.Logic.{inl, inr}
 use Prim.Native.Nat.{ℕ, suc, _+_, _*_, _-_, _/_, _%_, _^_, _≤_, _<_}
 use native.Mathlib.Omega.{arith}
 use lib.Dec.{eqb, ltb}
-use lib.ListN.{length, getD, set, length-set}
+use lib.ListN.{getD, set, length-set}
 use lib.Seq.{getD-set-same, getD-set-other}
 use borrow.Author.Tests.{eqb-true, eqb-false}
 use Rattle.words.specs.declared.Value.{Value}
@@ -23,21 +23,20 @@ use Rattle.rules.specs.Program.{program}
 use Rattle.rules.specs.Heap.{heapOf}
 use Rattle.rules.specs.Step.{gives, sameValue, eqRedex, getRedex}
 use Rattle.laws.specs.Values.{valueAt, IsValue}
-use Rattle.laws.specs.Trees.{operandCount, operand-below, operand-after, operand-none}
+use Rattle.laws.specs.Trees.{operandCount, operand-below, operand-after}
 use Rattle.laws.specs.Tags.{word-low}
 use Rattle.redexes.specs.Outcomes.{redexOf}
 use Rattle.redexes.specs.RedexLaws.{add-sum, add-word}
 use Rattle.objects.specs.Spots.{FieldSpot}
-use Rattle.room.specs.declared.Focus.{Focus}
 use Rattle.room.specs.declared.Focus.the-variants.{Node, Value as Word}
 use Rattle.room.specs.Room.{searchWord, frameAt, first, shapeOf, word, tag, Fit}
-use Rattle.room.specs.RoomLaws.{Kept, kept-refl, kept-set, kept-lower, push, push-kept, push-tag, push-place}
+use Rattle.room.specs.RoomLaws.{Kept, kept-refl, kept-set, push, push-kept, push-tag, push-place}
 use Rattle.room.specs.Turn.{HeapOk, Inv, Moves, Steps}
 use Rattle.room.specs.Enter.{enter-value, enter-first}
 use Rattle.room.specs.Nodes.{var-local, var-steps}
 use Rattle.room.specs.Back as back
-use Rattle.room.specs.Leads.{Leads, Leaps}
-use Rattle.room.specs.LeadsLaws.{leaps-move, leaps-step, leaps-on, leads-on, leaps-kept}
+use Rattle.room.specs.Leads.{Leaps}
+use Rattle.room.specs.LeadsLaws.{leaps-move, leaps-step, leaps-on, leaps-kept}
 use Rattle.quick.specs.declared.Quick.{Quick}
 use Rattle.quick.specs.Known.{Tabled, Stored, Locals, Eval, Known, Valued, IsPair, Gives, Paired, Field, Deep}
 
@@ -61,11 +60,8 @@ kept-locals k x h = k .same x (omega arith)
 locals-on : (a b c : List ℕ) → Locals a b → Locals b c → Locals a c
 locals-on a b c s t x h = t x h ∙ s x h
 
-kept-back : {old new : List ℕ} {l : ℕ} → Kept old new l → Kept new old l
+pub kept-back : {old new : List ℕ} {l : ℕ} → Kept old new l → Kept new old l
 kept-back k = record { size = sym (k .size); same = λ j h. sym (k .same j h) }
-
-kept-on : {a b c : List ℕ} {l : ℕ} → Kept a b l → Kept b c l → Kept a c l
-kept-on s t = record { size = t .size ∙ s .size; same = λ j h. t .same j h ∙ s .same j h }
 
 -- the word of a literal's value
 module _ (ws : List ℕ) (n : ℕ) (h : nodeHolds ws n ≡ true) (k : nodeWord ws n 0 ≡ 2) where
@@ -84,6 +80,46 @@ module _ (ws : List ℕ) (n : ℕ) (h : nodeHolds ws n ≡ true) (k : nodeWord w
     literal-value =
         rw (tag-of x y b, payload-of x y b, ex, ey)
         (and-right (ltb (nodeWord ws n 2) writtenTags) (isValue (nodeWord ws n 2) (nodeWord ws n 3)) literal-names)
+
+-- operands of an Add or an Eq
+module _ (ws : List ℕ) (n : ℕ) where
+  pair-count : {t : ℕ} → IsPair t → nodeWord ws n 0 ≡ t → operandCount ws n ≡ 2
+  unfolding kindOf operands
+  pair-count (inl e) q = rw (q, e)
+  pair-count (inr e) q = rw (q, e)
+
+  pub pair-two : {t : ℕ} → IsPair t → nodeWord ws n 0 ≡ t → 1 < operandCount ws n
+  pair-two p q = rw (pair-count p q) (omega arith)
+
+  pub get-one : nodeWord ws n 0 ≡ 7 → 0 < operandCount ws n
+  unfolding kindOf operands
+  get-one q = rw q (omega arith)
+
+  pub last-operand : operand ws n 0 ≡ n - 1
+  unfolding operand
+  last-operand = refl
+
+  -- the first of two stands before the tree of the second
+  pub first-place : nodeHolds ws n ≡ true → 1 < operandCount ws n → suc (operand ws n 1) + nodeWord ws (n - 1) 1 ≡ n
+  first-place h o =
+      omega (arith, rw last-operand at (operand-after ws n h 0 (omega arith)), operand-below ws n h 0 (omega arith))
+
+  -- the node to look deeper into
+  pub deep-self : (kind : ℕ) → n < nodeCount ws → Deep ws kind n n
+  deep-self kind h = record { within = h; is = λ d. absurd (d refl); first = λ d. absurd (d refl) }
+
+  module _ (kind : ℕ) (within : n < nodeCount ws) (h : nodeHolds ws n ≡ true) (p : IsPair kind) (e : nodeWord ws n 0 ≡ kind) where
+    pub deep-last : Deep ws kind n (n - 1)
+    deep-last =
+        record {
+          within = omega arith;
+          is = λ d. p;
+          first = λ d s. absurd (s (omega (arith, first-place h (pair-two p e))));
+        }
+
+    pub deep-first : nodeWord ws (n - 1) 1 ≡ 1 → Deep ws kind n (n - 2)
+    deep-first o =
+        record { within = omega arith; is = λ d. p; first = λ d s. omega (arith, first-place h (pair-two p e)) }
 
 module _ (ws : List ℕ) (nodes : (n : ℕ) → n < nodeCount ws → nodeHolds ws n ≡ true) (hs room : List ℕ) where
   pub eval-deeper : {n w k d e : ℕ} → d ≤ e → Eval ws hs room n w k d → Eval ws hs room n w k e
@@ -139,19 +175,14 @@ module _ (ws : List ℕ) (nodes : (n : ℕ) → n < nodeCount ws → nodeHolds w
           let b = v .leaps D new (suc l) (pushed-locals D r l n 7 i low e s) (a .leads .inv) (a .leads .heap) (omega arith) in
           let q = pushed-place D r l n 7 i low e in
           let c =
-              leaps-step ws D
-              (back.redex-gives ws nodes D hs new l w (b .leads .inv) _ _ _
-              (back.back-get ws nodes D hs new l w (b .leads .inv) (pushed-tag D r l n 7 i low e)) hs u (rw q g) z (b .leads .heap)) in
+          leaps-step ws D
+          (back.redex-gives ws nodes D hs new l w (b .leads .inv) _ _ _
+          (back.back-get ws nodes D hs new l w (b .leads .inv) (pushed-tag D r l n 7 i low e)) hs u (rw q g) z (b .leads .heap)) in
           let k0 : 0 + k + 1 ≡ k + 1 = omega arith in
           rw k0 at
           (leaps-kept ws D (leaps-on ws D (leaps-on ws D a (b .leads)) (c .leads)) (kept-back (push-kept ws r l 7 n)))
 
   -- an Add or an Eq goes on to its second operand, and comes to its value
-  pair-count : (n t : ℕ) → IsPair t → nodeWord ws n 0 ≡ t → operandCount ws n ≡ 2
-  unfolding kindOf operands
-  pair-count n t (inl e) q = rw (q, e)
-  pair-count n t (inr e) q = rw (q, e)
-
   pair-first : (t : ℕ) → IsPair t → shapeOf t ≡ first
   unfolding shapeOf
   pair-first t (inl e) = rw e
@@ -184,6 +215,21 @@ module _ (ws : List ℕ) (nodes : (n : ℕ) → n < nodeCount ws → nodeHolds w
   pair-steps D r l t v w u i o q a (inr (e, g)) z =
       back.redex-gives ws nodes D hs r l w i _ _ _ (back.back-eq ws nodes D hs r l w i (q ∙ rw e)) hs u (rw a (g _)) z o
 
+  -- the first operand's value comes to the frame of an Add or an Eq, and the second one's is known
+  pub second-leaps : (D : ℕ) (r : List ℕ) (l n t v w u k d : ℕ) → Locals room r → Inv ws D r (suc l) (Word v)
+      → HeapOk ws hs (getD r searchWord 0) → suc l + d ≤ D → IsPair t → tag ws r l ≡ t → word ws r l 1 ≡ n
+      → Eval ws hs room (operand ws n 0) w k d → Gives t v w u → IsValue u → Leaps ws D (k + 1) hs r (suc l) (Word v) hs r l (Word u)
+  second-leaps D r l n t v w u k d s i o m p q e y g z =
+      let new = halved r l t v in
+      let c = halved-kept D r l t v i in
+      let a = rw e at (leaps-move ws D o (pair-moves D r l t v i p q)) in
+      let b = y .leaps D new (suc l) (locals-on room r new s (kept-locals c)) (a .leads .inv) (a .leads .heap) m in
+      let f =
+      leaps-step ws D
+      (pair-steps D new l t v w u (b .leads .inv) (b .leads .heap) (halved-tag D r l t v i) (halved-value D r l t v i) g z) in
+      let k0 : 0 + k + 1 ≡ k + 1 = omega arith in
+      rw k0 at (leaps-kept ws D (leaps-on ws D (leaps-on ws D a (b .leads)) (f .leads)) (kept-back c))
+
   pub eval-pair : (n t v w u j k d : ℕ) → IsPair t → nodeWord ws n 0 ≡ t → Eval ws hs room (operand ws n 1) v j d
       → Eval ws hs room (operand ws n 0) w k d → Gives t v w u → IsValue u → Eval ws hs room n u (j + k + 1) (suc d)
   eval-pair n t v w u j k d p e x y g z = record { is-value = z; leaps = pair-leaps }
@@ -192,26 +238,16 @@ module _ (ws : List ℕ) (nodes : (n : ℕ) → n < nodeCount ws → nodeHolds w
           → l + suc d ≤ D → Leaps ws D (j + k + 1) hs r l (Node n) hs r l (Word u)
       pair-leaps D r l s i o m =
           let low : l ≤ D = omega arith in
-          let r1 = push r l t n in
-          let r2 = halved r1 l t v in
+          let new = push r l t n in
           let s1 = pushed-locals D r l n t i low e s in
-          let c1 = push-kept ws r l t n in
-          let a = leaps-move ws D o (goes-in D r l n t i low e 1 (pair-first t p) (rw (pair-count n t p e))) in
-          let b = x .leaps D r1 (suc l) s1 (a .leads .inv) (a .leads .heap) (omega arith) in
-          let i1 = b .leads .inv in
-          let c2 = halved-kept D r1 l t v i1 in
-          let f =
-              rw (pushed-place D r l n t i low e) at
-              (leaps-move ws D (b .leads .heap) (pair-moves D r1 l t v i1 p (pushed-tag D r l n t i low e))) in
-          let h = y .leaps D r2 (suc l) (locals-on room r1 r2 s1 (kept-locals c2)) (f .leads .inv) (f .leads .heap) (omega arith) in
+          let a = leaps-move ws D o (goes-in D r l n t i low e 1 (pair-first t p) (rw (pair-count ws n p e))) in
+          let b = x .leaps D new (suc l) s1 (a .leads .inv) (a .leads .heap) (omega arith) in
           let c =
-              leaps-step ws D
-              (pair-steps D r2 l t v w u (h .leads .inv) (h .leads .heap) (halved-tag D r1 l t v i1) (halved-value D r1 l t v i1) g z) in
-          let k0 : 0 + j + (0 + k) + 1 ≡ j + k + 1 = omega arith in
+          second-leaps D new l n t v w u k d s1 (b .leads .inv) (b .leads .heap) (omega arith) p (pushed-tag D r l n t i low e)
+          (pushed-place D r l n t i low e) y g z in
+          let k0 : 0 + j + (k + 1) ≡ j + k + 1 = omega arith in
           rw k0 at
-          (leaps-kept ws D
-          (leaps-on ws D (leaps-on ws D (leaps-on ws D a (b .leads)) (leads-on ws D (f .leads) (h .leads))) (c .leads))
-          (kept-back (kept-on c1 c2)))
+          (leaps-kept ws D (leaps-on ws D (leaps-on ws D a (b .leads)) (c .leads)) (kept-back (push-kept ws r l t n)))
 
   -- what answers say
   pub known-none : (n d : ℕ) (q : Quick) → q .held ≡ 0 → q .steps ≡ 0 → Known ws hs room n d q
@@ -272,43 +308,6 @@ module _ (ws : List ℕ) (nodes : (n : ℕ) → n < nodeCount ws → nodeHolds w
             let g : getD room (nodeWord ws n 2) 0 ≡ suc u = rw (← q) f in
             eval-var n u h e g (rw g at (s .held-ok (nodeWord ws n 2) m));
       }
-
--- operands of an Add or an Eq
-module _ (ws : List ℕ) (n : ℕ) where
-  pub pair-two : {t : ℕ} → IsPair t → nodeWord ws n 0 ≡ t → 1 < operandCount ws n
-  unfolding kindOf operands
-  pair-two (inl e) q = rw (q, e) (omega arith)
-  pair-two (inr e) q = rw (q, e) (omega arith)
-
-  pub get-one : nodeWord ws n 0 ≡ 7 → 0 < operandCount ws n
-  unfolding kindOf operands
-  get-one q = rw q (omega arith)
-
-  pub last-operand : operand ws n 0 ≡ n - 1
-  unfolding operand
-  last-operand = refl
-
-  -- the first of two stands before the tree of the second
-  pub first-place : nodeHolds ws n ≡ true → 1 < operandCount ws n → suc (operand ws n 1) + nodeWord ws (n - 1) 1 ≡ n
-  first-place h o =
-      omega (arith, rw last-operand at (operand-after ws n h 0 (omega arith)), operand-below ws n h 0 (omega arith))
-
-  -- the node to look deeper into
-  pub deep-self : (kind : ℕ) → n < nodeCount ws → Deep ws kind n n
-  deep-self kind h = record { within = h; is = λ d. absurd (d refl); first = λ d. absurd (d refl) }
-
-  module _ (kind : ℕ) (within : n < nodeCount ws) (h : nodeHolds ws n ≡ true) (p : IsPair kind) (e : nodeWord ws n 0 ≡ kind) where
-    pub deep-last : Deep ws kind n (n - 1)
-    deep-last =
-        record {
-          within = omega arith;
-          is = λ d. p;
-          first = λ d s. absurd (s (omega (arith, first-place h (pair-two p e))));
-        }
-
-    pub deep-first : nodeWord ws (n - 1) 1 ≡ 1 → Deep ws kind n (n - 2)
-    deep-first o =
-        record { within = omega arith; is = λ d. p; first = λ d s. omega (arith, first-place h (pair-two p e)) }
 
 -- tests of kinds
 pub either-kind : (k : ℕ) → (eqb k 4 || eqb k 5) ≡ true → IsPair k

@@ -78,10 +78,16 @@ pub fn pair(kind: u32, a: Quick, b: Quick) -> Quick
     let v = a.held - 1;
     let w = b.held - 1;
     if kind == EQ {
-        return Quick { held: redexes::eq_redex(v, w) + 1, steps: k };
+        return Quick {
+            held: redexes::eq_redex(v, w) + 1,
+            steps: k,
+        };
     }
     if (v / TAG == 3) & (w / TAG == 3) {
-        return Quick { held: 3 * TAG + (v + w) % TAG + 1, steps: k };
+        return Quick {
+            held: 3 * TAG + (v + w) % TAG + 1,
+            steps: k,
+        };
     }
     unknown()
 }
@@ -98,7 +104,10 @@ fn field(ws: &[u32], heap: &[u64], memo: &[u64], p: usize, q: Quick) -> Quick
     if j == 0 {
         return unknown();
     }
-    Quick { held: heap[j] + 1, steps: q.steps + 1 }
+    Quick {
+        held: heap[j] + 1,
+        steps: q.steps + 1,
+    }
 }
 
 // A literal or a variable.
@@ -107,7 +116,10 @@ pub fn leaf(ws: &[u32], nodes: usize, room: &[u64], n: usize) -> Quick
     ensures { λ r. ⌜ ((hs : List ℕ) → Known (now (ws .entry)) hs (now (room .entry)) n 0 r) ⌝ }
 {
     match word_at(ws, nodes, n, 0) {
-        LITERAL => Quick { held: literal_at(ws, nodes, n) + 1, steps: 0 },
+        LITERAL => Quick {
+            held: literal_at(ws, nodes, n) + 1,
+            steps: 0,
+        },
         VAR => Quick {
             held: room[word_at(ws, nodes, n, 2) as usize],
             steps: 1,
@@ -148,7 +160,11 @@ fn deep_of(ws: &[u32], nodes: usize, kind: u32, n: usize) -> usize
     if (kind != ADD) & (kind != EQ) {
         return n;
     }
-    if word_at(ws, nodes, n - 1, 1) == 1 { n - 2 } else { n - 1 }
+    if word_at(ws, nodes, n - 1, 1) == 1 {
+        n - 2
+    } else {
+        n - 1
+    }
 }
 
 // The same, or a sum or comparison of such a thing and a leaf.

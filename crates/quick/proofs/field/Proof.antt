@@ -1,56 +1,42 @@
-use mathlib.Core.Logic.{inl}
+-- `quick::field` meets its contract.
 use Rattle.laws.specs.Tags.{word-low}
-use Rattle.quick.specs.KnownLaws.{field-at, field-none, object-value}
-use native.Mathlib.Omega.{arith}
-use borrow.Author.Needs.{needs}
 use Rattle.quick.proofs.field.Statement.{statement}
+use Rattle.quick.specs.KnownLaws.{field-at, field-none, object-value}
+use borrow.Author.Needs.{needs}
+use mathlib.Core.Logic.{inl}
+use native.Mathlib.Omega.{arith}
 use Rattle.quick.proofs.field.Tie as tie
-use Rattle.quick.proofs.field.Reads as reads
-use Rattle.quick.proofs.field.Lts as lts
-use Rattle.memo.proofs.spot.Reads as spot-reads
-use Rattle.quick.proofs.unknown.Reads as unknown-reads
 
--- src/lib.rt:96:9
 unknown-requires : tie.Need-unknown-requires
 unknown-requires c κs = search needs
 
--- src/lib.rt:96:9
 returns : tie.Need-returns
 returns c = field-none _ _ _ _ _ (c .unknown .ensures .0) (c .unknown .ensures .1)
 
--- src/lib.rt:98:39
 sub-spot : tie.Need-sub-spot
 sub-spot c = search needs
 
--- src/lib.rt:98:9
 spot-requires : tie.Need-spot-requires
 spot-requires c κs = let p = c .before .before .before .before .before .before .pre in (p .3 .size, omega (arith, p .0 .0, p .1), object-value (c .before .before .before .before .before .before .args .ws .now) (c .before .before .before .before .before .before .args .heap .now) (c .before .before .before .before .before .before .args .p) (c .before .before .before .before .before .before .args .q) (p .4) (c .before .if1 .left))
 
--- src/lib.rt:100:9
 unknown-requires-2 : tie.Need-unknown-requires-2
 unknown-requires-2 c κs = search needs
 
--- src/lib.rt:100:9
 returns-2 : tie.Need-returns-2
 returns-2 c = field-none _ _ _ _ _ (c .unknown2 .ensures .0) (c .unknown2 .ensures .1)
 
--- src/lib.rt:102:19
 mul-t9 : tie.Need-mul-t9
 mul-t9 c = let p = c .before .before .before .before .before .before .before .before .pre in let s = c .before .spot .ensures _ (p .3) (p .2) (p .0 .0, inl (p .0 .1)) (c .if2 .left) in omega (arith, s .inside)
 
--- src/lib.rt:102:19
 shared-slice-read-t8 : tie.Need-shared-slice-read-t8
 shared-slice-read-t8 c = let p = c .before .before .before .before .before .before .before .before .before .pre in let s = c .before .before .spot .ensures _ (p .3) (p .2) (p .0 .0, inl (p .0 .1)) (c .before .if2 .left) in s .inside
 
--- src/lib.rt:102:19
 add-t11 : tie.Need-add-t11
 add-t11 c = let p = c .before .before .before .before .before .before .before .before .before .pre in let s = c .before .before .spot .ensures _ (p .3) (p .2) (p .0 .0, inl (p .0 .1)) (c .before .if2 .left) in omega (arith, word-low _ (s .holds))
 
--- src/lib.rt:102:39
 add-t12 : tie.Need-add-t12
 add-t12 c = search needs
 
--- src/lib.rt:91:1
 returns-3 : tie.Need-returns-3
 returns-3 c = let p = c .before .before .before .before .before .before .before .before .before .before .pre in let s = c .before .before .before .spot .ensures _ (p .3) (p .2) (p .0 .0, inl (p .0 .1)) (c .before .before .if2 .left) in field-at _ _ _ _ _ (c .before .before .before .before .before .if1 .left) s
 
