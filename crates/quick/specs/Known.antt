@@ -42,13 +42,14 @@ pub record Eval (ws hs room : List ℕ) (n w k d : ℕ) : Type 0 where
   pub leaps : (D : ℕ) (room' : List ℕ) (l : ℕ) → Locals room room' → Inv ws D room' l (Node n) → HeapOk ws hs (getD room' searchWord 0)
       → l + d ≤ D → Leaps ws D k hs room' l (Node n) hs room' l (Value w)
 
--- The most steps of such a node: each frame more is one step, and one leaf more.
-abbrev pub mostQuick : ℕ → ℕ
-mostQuick d = 2 * d + 1
+-- the most steps of such a node
+abbrev pub mostQuick : ℕ
+mostQuick = 5
 
--- what an answer says; one that holds nothing says nothing
+-- What an answer says; one that holds nothing says nothing. Each frame more is one step more, and one leaf.
 pub record Known (ws hs room : List ℕ) (n d : ℕ) (q : Quick) : Type 0 where
-  pub few : q .steps ≤ mostQuick d
+  pub few : q .steps ≤ mostQuick
+  pub fewer : q .steps ≤ 2 * d + 1
   pub eval : (w : ℕ) → q .held ≡ suc w → Eval ws hs room n w (q .steps) d
 
 -- a word and 1 more is a value's, or it is 0
@@ -60,10 +61,10 @@ abbrev pub IsPair : ℕ → Type 0
 IsPair kind = (kind ≡ 4) ⊎ (kind ≡ 5)
 
 -- such a node of the values of v and w gives the value of u, and leaves the heap as it is
-abbrev pub Gives : (kind v w u : ℕ) → Type 0
-Gives kind v w u =
-    ((kind ≡ 4) × ((h : Heap) → addRedex h (valueAt v) (valueAt w) ≡ gives h (valueAt u)))
-    ⊎ ((kind ≡ 5) × ((h : Heap) → eqRedex h (valueAt v) (valueAt w) ≡ gives h (valueAt u)))
+pub record Gives (kind v w u : ℕ) : Type 0 where
+  pub is-value : IsValue u
+  pub redex : ((kind ≡ 4) × ((h : Heap) → addRedex h (valueAt v) (valueAt w) ≡ gives h (valueAt u)))
+      ⊎ ((kind ≡ 5) × ((h : Heap) → eqRedex h (valueAt v) (valueAt w) ≡ gives h (valueAt u)))
 
 -- an answer that holds the value of u, made of two that hold values
 pub record Made (kind : ℕ) (a b r : Quick) (u : ℕ) : Type 0 where
@@ -71,9 +72,8 @@ pub record Made (kind : ℕ) (a b r : Quick) (u : ℕ) : Type 0 where
   pub right : ℕ
   pub left-held : a .held ≡ suc left
   pub right-held : b .held ≡ suc right
-  pub is-value : IsValue u
   pub steps : r .steps ≡ a .steps + b .steps + 1
-  pub sums : Gives kind left right u
+  pub gives : Gives kind left right u
 
 -- the answer for a pair, of its operands' answers
 pub record Paired (kind : ℕ) (a b r : Quick) : Type 0 where

@@ -2,7 +2,7 @@
 use mathlib.Core.Path.{_≡_, refl, sym, _∙_}
 use mathlib.Core.Bool.{Bool, true, false, not, _&&_, _||_}
 use mathlib.Core.List.{List}
-use mathlib.Core.Logic.{inl, inr}
+use mathlib.Core.Logic.{_⊎_, inl, inr}
 use Prim.Native.Nat.{ℕ, suc, _+_, _*_, _-_, _/_, _%_, _^_, _≤_, _<_}
 use native.Mathlib.Omega.{arith}
 use lib.Dec.{eqb, ltb}
@@ -20,11 +20,10 @@ use Rattle.image.specs.Nodes.{nodeWord, kindOf, operands, namesHold, nodeHolds}
 use Rattle.image.specs.Layout.{Good}
 use Rattle.rules.specs.Trees.{written, operand}
 use Rattle.rules.specs.Program.{program}
-use Rattle.rules.specs.Heap.{heapOf}
-use Rattle.rules.specs.Step.{gives, sameValue, eqRedex, getRedex}
+use Rattle.rules.specs.Heap.{Heap, heapOf}
+use Rattle.rules.specs.Step.{gives, sameValue, addRedex, eqRedex, getRedex}
 use Rattle.laws.specs.Values.{valueAt, IsValue}
 use Rattle.laws.specs.Trees.{operandCount, operand-below, operand-after}
-use Rattle.laws.specs.Tags.{word-low}
 use Rattle.redexes.specs.Outcomes.{redexOf}
 use Rattle.redexes.specs.RedexLaws.{add-sum, add-word}
 use Rattle.objects.specs.Spots.{FieldSpot}
@@ -209,30 +208,35 @@ module _ (ws : List ℕ) (nodes : (n : ℕ) → n < nodeCount ws → nodeHolds w
     pair-moves (inr e) q = rw e (back.eq-moves ws nodes D hs r l v inv (q ∙ e))
 
   pair-steps : (D : ℕ) (r : List ℕ) (l t v w u : ℕ) → Inv ws D r (suc l) (Word w) → HeapOk ws hs (getD r searchWord 0)
-      → tag ws r l ≡ t + 16 → word ws r l 2 ≡ v → Gives t v w u → IsValue u → Steps ws D hs r (suc l) (Word w) hs r l (Word u)
-  pair-steps D r l t v w u i o q a (inl (e, g)) z =
-      back.redex-gives ws nodes D hs r l w i _ _ _ (back.back-add ws nodes D hs r l w i (q ∙ rw e)) hs u (rw a (g _)) z o
-  pair-steps D r l t v w u i o q a (inr (e, g)) z =
-      back.redex-gives ws nodes D hs r l w i _ _ _ (back.back-eq ws nodes D hs r l w i (q ∙ rw e)) hs u (rw a (g _)) z o
+      → tag ws r l ≡ t + 16 → word ws r l 2 ≡ v → Gives t v w u → Steps ws D hs r (suc l) (Word w) hs r l (Word u)
+  pair-steps D r l t v w u i o q a s = go (s .redex)
+    where
+      go : ((t ≡ 4) × ((h : Heap) → addRedex h (valueAt v) (valueAt w) ≡ gives h (valueAt u)))
+          ⊎ ((t ≡ 5) × ((h : Heap) → eqRedex h (valueAt v) (valueAt w) ≡ gives h (valueAt u)))
+          → Steps ws D hs r (suc l) (Word w) hs r l (Word u)
+      go (inl (e, g)) =
+          back.redex-gives ws nodes D hs r l w i _ _ _ (back.back-add ws nodes D hs r l w i (q ∙ rw e)) hs u (rw a (g _)) (s .is-value) o
+      go (inr (e, g)) =
+          back.redex-gives ws nodes D hs r l w i _ _ _ (back.back-eq ws nodes D hs r l w i (q ∙ rw e)) hs u (rw a (g _)) (s .is-value) o
 
   -- the first operand's value comes to the frame of an Add or an Eq, and the second one's is known
   pub second-leaps : (D : ℕ) (r : List ℕ) (l n t v w u k d : ℕ) → Locals room r → Inv ws D r (suc l) (Word v)
       → HeapOk ws hs (getD r searchWord 0) → suc l + d ≤ D → IsPair t → tag ws r l ≡ t → word ws r l 1 ≡ n
-      → Eval ws hs room (operand ws n 0) w k d → Gives t v w u → IsValue u → Leaps ws D (k + 1) hs r (suc l) (Word v) hs r l (Word u)
-  second-leaps D r l n t v w u k d s i o m p q e y g z =
+      → Eval ws hs room (operand ws n 0) w k d → Gives t v w u → Leaps ws D (k + 1) hs r (suc l) (Word v) hs r l (Word u)
+  second-leaps D r l n t v w u k d s i o m p q e y g =
       let new = halved r l t v in
       let c = halved-kept D r l t v i in
       let a = rw e at (leaps-move ws D o (pair-moves D r l t v i p q)) in
       let b = y .leaps D new (suc l) (locals-on room r new s (kept-locals c)) (a .leads .inv) (a .leads .heap) m in
       let f =
       leaps-step ws D
-      (pair-steps D new l t v w u (b .leads .inv) (b .leads .heap) (halved-tag D r l t v i) (halved-value D r l t v i) g z) in
+      (pair-steps D new l t v w u (b .leads .inv) (b .leads .heap) (halved-tag D r l t v i) (halved-value D r l t v i) g) in
       let k0 : 0 + k + 1 ≡ k + 1 = omega arith in
       rw k0 at (leaps-kept ws D (leaps-on ws D (leaps-on ws D a (b .leads)) (f .leads)) (kept-back c))
 
   pub eval-pair : (n t v w u j k d : ℕ) → IsPair t → nodeWord ws n 0 ≡ t → Eval ws hs room (operand ws n 1) v j d
-      → Eval ws hs room (operand ws n 0) w k d → Gives t v w u → IsValue u → Eval ws hs room n u (j + k + 1) (suc d)
-  eval-pair n t v w u j k d p e x y g z = record { is-value = z; leaps = pair-leaps }
+      → Eval ws hs room (operand ws n 0) w k d → Gives t v w u → Eval ws hs room n u (j + k + 1) (suc d)
+  eval-pair n t v w u j k d p e x y g = record { is-value = g .is-value; leaps = pair-leaps }
     where
       pair-leaps : (D : ℕ) (r : List ℕ) (l : ℕ) → Locals room r → Inv ws D r l (Node n) → HeapOk ws hs (getD r searchWord 0)
           → l + suc d ≤ D → Leaps ws D (j + k + 1) hs r l (Node n) hs r l (Word u)
@@ -244,17 +248,17 @@ module _ (ws : List ℕ) (nodes : (n : ℕ) → n < nodeCount ws → nodeHolds w
           let b = x .leaps D new (suc l) s1 (a .leads .inv) (a .leads .heap) (omega arith) in
           let c =
           second-leaps D new l n t v w u k d s1 (b .leads .inv) (b .leads .heap) (omega arith) p (pushed-tag D r l n t i low e)
-          (pushed-place D r l n t i low e) y g z in
+          (pushed-place D r l n t i low e) y g in
           let k0 : 0 + j + (k + 1) ≡ j + k + 1 = omega arith in
           rw k0 at
           (leaps-kept ws D (leaps-on ws D (leaps-on ws D a (b .leads)) (c .leads)) (kept-back (push-kept ws r l t n)))
 
   -- what answers say
   pub known-none : (n d : ℕ) (q : Quick) → q .held ≡ 0 → q .steps ≡ 0 → Known ws hs room n d q
-  known-none n d q e z = record { few = omega arith; eval = λ w f. absurd (omega arith) }
+  known-none n d q e z = record { few = omega arith; fewer = omega arith; eval = λ w f. absurd (omega arith) }
 
   pub known-deeper : {n d e : ℕ} {q : Quick} → d ≤ e → Known ws hs room n d q → Known ws hs room n e q
-  known-deeper {n} {d} {e} {q} h a = record { few = omega (arith, a .few); eval = λ w f. eval-deeper h (a .eval w f) }
+  known-deeper {n} {d} {e} {q} h a = record { few = a .few; fewer = omega (arith, a .fewer); eval = λ w f. eval-deeper h (a .eval w f) }
 
   pub known-at : {m n d : ℕ} {q : Quick} → m ≡ n → Known ws hs room m d q → Known ws hs room n d q
   known-at e a = rw (← e) a
@@ -268,10 +272,12 @@ module _ (ws : List ℕ) (nodes : (n : ℕ) → n < nodeCount ws → nodeHolds w
   known-valued a w f = a .eval w f .is-value
 
   pub known-get : {n d : ℕ} {q r : Quick} → nodeWord ws n 0 ≡ 7 → Known ws hs room (operand ws n 0) d q → Field ws hs n q r
+      → d ≤ 1
       → Known ws hs room n (suc d) r
-  known-get {n} {d} {q} {r} e a f =
+  known-get {n} {d} {q} {r} e a f m =
       record {
-        few = omega (arith, a .few, f .few);
+        few = omega (arith, a .fewer, f .few);
+        fewer = omega (arith, a .fewer, f .few);
         eval =
             λ u h.
             let g = f .fetched u h in
@@ -279,29 +285,32 @@ module _ (ws : List ℕ) (nodes : (n : ℕ) → n < nodeCount ws → nodeHolds w
       }
 
   pub known-pair : {n t c d : ℕ} {a b r : Quick} → IsPair t → nodeWord ws n 0 ≡ t → Known ws hs room (operand ws n 1) c a
-      → Known ws hs room (operand ws n 0) d b → Paired t a b r → Known ws hs room n (suc (c + d)) r
-  known-pair {n} {t} {c} {d} {a} {b} {r} p e x y f =
+      → Known ws hs room (operand ws n 0) d b → Paired t a b r → c + d ≤ 1
+      → Known ws hs room n (suc (c + d)) r
+  known-pair {n} {t} {c} {d} {a} {b} {r} p e x y f m =
       record {
-        few = omega (arith, x .few, y .few, f .few);
+        few = omega (arith, x .fewer, y .fewer, f .few);
+        fewer = omega (arith, x .fewer, y .fewer, f .few);
         eval =
             λ u h.
             let g = f .made u h in
             rw (g .steps)
             (eval-pair n t (g .left) (g .right) u (a .steps) (b .steps) (c + d) p e
             (eval-deeper (omega arith) (x .eval (g .left) (g .left-held)))
-            (eval-deeper (omega arith) (y .eval (g .right) (g .right-held))) (g .sums) (g .is-value));
+            (eval-deeper (omega arith) (y .eval (g .right) (g .right-held))) (g .gives));
       }
 
   pub known-literal : (n w : ℕ) → nodeWord ws n 0 ≡ 2 → valueAt w ≡ written (valueWith (nodeWord ws n 2) (nodeWord ws n 3)) → IsValue w
       → Known ws hs room n 0 (record { held = w + 1; steps = 0 })
   known-literal n w e q v =
-      record { few = omega arith; eval = λ u f. let z : u ≡ w = omega arith in rw z (eval-literal n w e q v) }
+      record { few = omega arith; fewer = omega arith; eval = λ u f. let z : u ≡ w = omega arith in rw z (eval-literal n w e q v) }
 
   pub known-var : (n x : ℕ) → n < nodeCount ws → nodeWord ws n 0 ≡ 3 → x ≡ nodeWord ws n 2 → Stored ws room
       → Known ws hs room n 0 (record { held = getD room x 0; steps = 1 })
   known-var n x h e q s =
       record {
         few = omega arith;
+        fewer = omega arith;
         eval =
             λ u f.
             let m = var-local ws n (nodes n h) e in
@@ -337,28 +346,37 @@ both-held a b = go (eqb a 0) refl
     go true e h = absurd (let z : _≡_ {A = ℕ} 0 1 = cc in omega arith)
     go false e h = (eqb-false a 0 e, eqb-false b 0 h)
 
+-- the word of a pair
+module _ (kind v w : ℕ) where
+  pub gives-none : (u : ℕ) → 0 ≡ suc u → Gives kind v w u
+  gives-none u e = absurd (omega arith)
+
+  pub gives-eq : (r : ℕ) → kind ≡ 5 → valueAt r ≡ Value.Bool (sameValue (valueAt v) (valueAt w)) → IsValue r
+      → (u : ℕ) → r + 1 ≡ suc u → Gives kind v w u
+  unfolding eqRedex
+  gives-eq r k e z u h =
+      let q : u ≡ r = omega arith in
+      record { is-value = rw q z; redex = inr (k, λ s. rw (q, e)) }
+
+  pub gives-add : kind ≡ 4 → IsValue v → IsValue w → (eqb (v / 2 ^ 32) 3 && eqb (w / 2 ^ 32) 3) ≡ true
+      → (u : ℕ) → 3 * 2 ^ 32 + (v + w) % 2 ^ 32 + 1 ≡ suc u → Gives kind v w u
+  unfolding redexOf
+  gives-add k kv kw e u h =
+      let q : u ≡ 3 * 2 ^ 32 + (v + w) % 2 ^ 32 = omega arith in
+      record { is-value = rw q (add-word v w kv kw); redex = inl (k, λ s. rw q (sym (add-sum v w kv kw e s))) }
+
 -- the answer for a pair
 pub paired-none : (kind : ℕ) (a b r : Quick) → r .held ≡ 0 → r .steps ≡ 0 → Paired kind a b r
 paired-none kind a b r e z = record { few = omega arith; made = λ u h. absurd (omega arith) }
 
-module _ (kind : ℕ) (a b : Quick) (va : Valued a) (vb : Valued b) (some : (a .held ≡ 0 → ⊥) × (b .held ≡ 0 → ⊥)) where
-  pub left-value : IsValue (a .held - 1)
-  left-value = let n = some .0 in va (a .held - 1) (omega arith)
-
-  pub right-value : IsValue (b .held - 1)
-  right-value = let n = some .1 in vb (b .held - 1) (omega arith)
-
-  pub both-low : (a .held - 1) + (b .held - 1) < 2 ^ 64
-  both-low = omega (arith, word-low (a .held - 1) left-value, word-low (b .held - 1) right-value)
-
-  paired : (u : ℕ) → IsValue u → Gives kind (a .held - 1) (b .held - 1) u
-      → Paired kind a b (record { held = u + 1; steps = a .steps + b .steps + 1 })
-  paired u v g =
+module _ (kind : ℕ) (a b : Quick) (some : (a .held ≡ 0 → ⊥) × (b .held ≡ 0 → ⊥)) where
+  pub paired : (r : ℕ) → ((u : ℕ) → r ≡ suc u → Gives kind (a .held - 1) (b .held - 1) u)
+      → Paired kind a b (record { held = r; steps = a .steps + b .steps + 1 })
+  paired r g =
       record {
         few = omega arith;
         made =
-            λ x e.
-            let z : x ≡ u = omega arith in
+            λ u e.
             let m = some .0 in
             let n = some .1 in
             record {
@@ -366,23 +384,14 @@ module _ (kind : ℕ) (a b : Quick) (va : Valued a) (vb : Valued b) (some : (a .
               right = b .held - 1;
               left-held = omega arith;
               right-held = omega arith;
-              is-value = rw z v;
               steps = refl;
-              sums = rw z g;
+              gives = g u e;
             };
       }
 
-  pub paired-eq : (u : ℕ) → kind ≡ 5 → valueAt u ≡ Value.Bool (sameValue (valueAt (a .held - 1)) (valueAt (b .held - 1))) → IsValue u
-      → Paired kind a b (record { held = u + 1; steps = a .steps + b .steps + 1 })
-  unfolding eqRedex
-  paired-eq u k e v = paired u v (inr (k, λ h. rw e))
-
-  pub paired-add : kind ≡ 4 → (eqb ((a .held - 1) / 2 ^ 32) 3 && eqb ((b .held - 1) / 2 ^ 32) 3) ≡ true
-      → Paired kind a b (record { held = 3 * 2 ^ 32 + ((a .held - 1) + (b .held - 1)) % 2 ^ 32 + 1; steps = a .steps + b .steps + 1 })
-  unfolding redexOf
-  paired-add k e =
-      paired _ (add-word (a .held - 1) (b .held - 1) left-value right-value)
-      (inl (k, λ h. sym (add-sum (a .held - 1) (b .held - 1) left-value right-value e h)))
+-- the value of an answer that holds one
+pub held-value : (q : Quick) → Valued q → (q .held ≡ 0 → ⊥) → IsValue (q .held - 1)
+held-value q v n = v (q .held - 1) (omega arith)
 
 -- the answer for a Get
 module _ (ws hs : List ℕ) (p : ℕ) (q : Quick) where
@@ -399,6 +408,3 @@ module _ (ws hs : List ℕ) (p : ℕ) (q : Quick) where
             let z : u ≡ getD hs j 0 = omega arith in
             record { object = q .held - 1; object-held = omega arith; is-value = rw z (s .holds); steps = refl; reads = rw z (s .reads) };
       }
-
-  pub object-value : Valued q → (q .held ≡ 0 → ⊥) → IsValue (q .held - 1)
-  object-value v n = v (q .held - 1) (omega arith)

@@ -2,7 +2,7 @@
 // such thing inside another. Nothing is changed here.
 ghost use mathlib.Core.Path.{_≡_};
 ghost use mathlib.Core.List.{List};
-ghost use Prim.Native.Nat.{ℕ, _≤_, _<_};
+ghost use Prim.Native.Nat.{ℕ, suc, _≤_, _<_};
 ghost use Rattle.words.specs.Value.{valueWith};
 ghost use Rattle.image.specs.Numbers.{mostNodes};
 ghost use Rattle.image.specs.Trailer.{classCount, nodeCount};
@@ -14,7 +14,7 @@ ghost use Rattle.laws.specs.Trees.{operandCount};
 ghost use Rattle.laws.specs.Heap.{Words};
 ghost use Rattle.room.specs.Room.{IsNode};
 ghost use Rattle.memo.specs.Memo.{Memo};
-ghost use Rattle.quick.specs.Known.{Tabled, Stored, mostQuick, Known, Valued, IsPair, Paired, Field, Deep};
+ghost use Rattle.quick.specs.Known.{Tabled, Stored, mostQuick, Known, Valued, IsPair, Gives, Paired, Field, Deep};
 use words::TAG;
 
 // A value's word and 1 more, or 0 where there is none to be had here; and the steps to it.
@@ -66,35 +66,37 @@ fn unknown() -> Quick
     Quick { held: 0, steps: 0 }
 }
 
-// An Add or an Eq of two values.
-pub fn pair(kind: u32, a: Quick, b: Quick) -> Quick
-    requires { ⌜ IsPair kind × Valued a × Valued b × (a .steps ≤ mostQuick 2) × (b .steps ≤ mostQuick 2) ⌝ }
+// The word of an Add, 4, or an Eq, 5, of two values, and 1 more; or 0, where there is none.
+pub fn pair_word(kind: u64, v: u64, w: u64) -> u64
+    requires { ⌜ IsPair kind × IsValue v × IsValue w ⌝ }
+    ensures { λ r. ⌜ ((u : ℕ) → r ≡ suc u → Gives kind v w u) ⌝ }
+{
+    if kind == 5 {
+        return redexes::eq_redex(v, w) + 1;
+    }
+    if (v / TAG == 3) & (w / TAG == 3) {
+        return 3 * TAG + (v + w) % TAG + 1;
+    }
+    0
+}
+
+// An Add or an Eq of two operands.
+fn pair(kind: u32, a: Quick, b: Quick) -> Quick
+    requires { ⌜ IsPair kind × Valued a × Valued b × (a .steps ≤ mostQuick) × (b .steps ≤ mostQuick) ⌝ }
     ensures { λ r. ⌜ Paired kind a b r ⌝ }
 {
     if (a.held == 0) | (b.held == 0) {
         return unknown();
     }
-    let k = a.steps + b.steps + 1;
-    let v = a.held - 1;
-    let w = b.held - 1;
-    if kind == EQ {
-        return Quick {
-            held: redexes::eq_redex(v, w) + 1,
-            steps: k,
-        };
+    Quick {
+        held: pair_word(kind as u64, a.held - 1, b.held - 1),
+        steps: a.steps + b.steps + 1,
     }
-    if (v / TAG == 3) & (w / TAG == 3) {
-        return Quick {
-            held: 3 * TAG + (v + w) % TAG + 1,
-            steps: k,
-        };
-    }
-    unknown()
 }
 
 // The Get at node p of a value, where its field is known.
 fn field(ws: &[u32], heap: &[u64], memo: &[u64], p: usize, q: Quick) -> Quick
-    requires { ⌜ IsNode (now ws) p 7 × (nodeCount (now ws) ≤ mostNodes) × Words (program (now ws)) (classCount (now ws)) (now heap) × Memo (now ws) (now memo) × Valued q × (q .steps ≤ mostQuick 2) ⌝ }
+    requires { ⌜ IsNode (now ws) p 7 × (nodeCount (now ws) ≤ mostNodes) × Words (program (now ws)) (classCount (now ws)) (now heap) × Memo (now ws) (now memo) × Valued q × (q .steps ≤ mostQuick) ⌝ }
     ensures { λ r. ⌜ Field (now (ws .entry)) (now (heap .entry)) p q r ⌝ }
 {
     if q.held == 0 {

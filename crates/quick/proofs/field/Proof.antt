@@ -1,7 +1,7 @@
 -- `quick::field` meets its contract.
 use Rattle.laws.specs.Tags.{word-low}
 use Rattle.quick.proofs.field.Statement.{statement}
-use Rattle.quick.specs.KnownLaws.{field-at, field-none, object-value}
+use Rattle.quick.specs.KnownLaws.{field-at, field-none, held-value}
 use borrow.Author.Needs.{needs}
 use mathlib.Core.Logic.{inl}
 use native.Mathlib.Omega.{arith}
@@ -17,7 +17,7 @@ sub-spot : tie.Need-sub-spot
 sub-spot c = search needs
 
 spot-requires : tie.Need-spot-requires
-spot-requires c κs = let p = c .before .before .before .before .before .before .pre in (p .3 .size, omega (arith, p .0 .0, p .1), object-value (c .before .before .before .before .before .before .args .ws .now) (c .before .before .before .before .before .before .args .heap .now) (c .before .before .before .before .before .before .args .p) (c .before .before .before .before .before .before .args .q) (p .4) (c .before .if1 .left))
+spot-requires c κs = let p = c .before .before .before .before .before .before .pre in (p .3 .size, omega (arith, p .0 .0, p .1), held-value (c .before .before .before .before .before .before .args .q) (p .4) (c .before .if1 .left))
 
 unknown-requires-2 : tie.Need-unknown-requires-2
 unknown-requires-2 c κs = search needs
