@@ -1,19 +1,23 @@
 -- Laws of leaps in a row: where they have come to, and that they end.
 use mathlib.Core.Path.{_≡_, refl, sym, _∙_}
 use mathlib.Core.Bool.{true}
-use mathlib.Core.List.{List}
+use mathlib.Core.List.{List, [], _∷_}
 use Prim.Native.Nat.{ℕ, zero, suc, _+_, _*_, _-_, _≤_, _<_}
 use native.Mathlib.Nat.{mul-le-mul-right, suc-mul}
 use native.Mathlib.Omega.{arith}
 use lib.ListN.{length, getD}
 use Rattle.image.specs.Trailer.{nodeCount}
 use Rattle.image.specs.Nodes.{nodeHolds}
-use Rattle.rules.specs.Run.{Ended}
+use Rattle.rules.specs.Program.{program}
+use Rattle.rules.specs.Heap.{heapOf}
+use Rattle.rules.specs.Run.{Ended, run}
+use Rattle.memo.specs.Memo.{memoWords, Memo}
+use Rattle.memo.specs.MemoLaws.{memo-empty}
 use Rattle.room.specs.declared.Focus.{Focus}
 use Rattle.room.specs.declared.Focus.the-variants.{Thrown}
 use Rattle.room.specs.Room.{searchWord}
 use Rattle.room.specs.RoomLaws.{Kept}
-use Rattle.room.specs.Turn.{HeapOk, phi, Inv, Moves, Steps}
+use Rattle.room.specs.Turn.{HeapOk, phi, whole, outside, Inv, Moves, Steps}
 use Rattle.room.specs.Leads.{Leads, Leaps}
 use Rattle.room.specs.LeadsLaws.{leads-none, leads-on, leaps-on, leads-kept}
 use Rattle.leaps.specs.declared.Leap.{Leap}
@@ -28,6 +32,22 @@ focus-thrown zero word place d e = refl
 focus-thrown (suc zero) word place d e = absurd (d refl)
 focus-thrown (suc (suc zero)) word place d e = absurd (e refl)
 focus-thrown (suc (suc (suc how))) word place d e = refl
+
+-- a table in which nothing is kept
+unfoldable pub blank : ℕ → List ℕ
+blank zero = []
+blank (suc k) = 0 ∷ blank k
+
+blank-word : (n k : ℕ) → getD (blank n) k 0 ≡ 0
+unfolding blank getD
+blank-word zero zero = refl
+blank-word zero (suc k) = refl
+blank-word (suc n) zero = refl
+blank-word (suc n) (suc k) = blank-word n k
+
+pub blank-memo : (ws : List ℕ) → Memo ws (blank memoWords)
+unfolding blank
+blank-memo ws = memo-empty ws (blank memoWords) refl (λ k h. blank-word memoWords k)
 
 module _ (ws : List ℕ) (D : ℕ) where
   -- so far, with so many steps left
@@ -78,6 +98,18 @@ module _ (ws : List ℕ) (D : ℕ) where
   leap-reaches {left} {k} {r = r} a h b =
       let e : left - r .left ≡ k + (left - k - r .left) = omega (arith, b .low) in
       (rw e (leaps-on ws D a (b .leads)), omega (arith, b .low))
+
+  -- the run from there on is the run
+  pub reaches-run : {limit : ℕ} {hs room : List ℕ} {l : ℕ} {f : Focus} {hs' room' : List ℕ} {r : Reached}
+      → Reaches ws D limit hs room l f hs' room' r
+      → run D (program ws) limit 0 (heapOf (program ws) hs) (outside ws room l) (whole ws room l f)
+      ≡ run D (program ws) (limit - (limit - r .left)) (limit - r .left) (heapOf (program ws) hs') (outside ws room' (r .level))
+      (whole ws room' (r .level) (focusAt (r .how) (r .word) (r .place)))
+  reaches-run {limit} {r = r} a =
+      let e : limit - (limit - r .left) ≡ r .left = omega (arith, a .low) in
+      let u : limit - r .left + r .left ≡ limit = omega (arith, a .low) in
+      let v : limit - r .left + 0 ≡ limit - r .left = omega arith in
+      rw e (rw (u, v) at (a .leads .runs (r .left) 0))
 
   -- what a leap tells
   module _ {top : ℕ} {hs room : List ℕ} {l : ℕ} {f : Focus} {hs' room' : List ℕ} {r : Leap}

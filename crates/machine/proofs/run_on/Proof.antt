@@ -1,3 +1,6 @@
+use native.Mathlib.Omega.{arith}
+use mathlib.Core.Path.{_∙_}
+use Rattle.machine.specs.ReachLaws.{blank, blank-memo, reaches-run}
 use borrow.Author.Needs.{needs}
 use Rattle.machine.proofs.run_on.Statement.{statement}
 use Rattle.machine.proofs.run_on.Tie as tie
@@ -13,7 +16,8 @@ slice-aggregate-strides c = search needs
 
 -- src/lib.rt:521:9
 strides-requires : tie.Need-strides-requires
-strides-requires c κs = search needs
+unfolding blank
+strides-requires c κs = (c .before .before .before .before .before .before .before .before .pre .0, c .before .before .before .before .before .before .before .before .pre .1, c .before .before .before .before .before .before .before .before .pre .2, c .before .before .before .before .before .before .before .before .pre .3, blank-memo _)
 
 -- src/lib.rt:541:9
 slice-aggregate-run-with : tie.Need-slice-aggregate-run-with
@@ -29,7 +33,8 @@ sub-run-with c = search needs
 
 -- src/lib.rt:534:5
 run-with-requires : tie.Need-run-with-requires
-run-with-requires c κs = ?
+unfolding blank
+run-with-requires c κs = let a = c .before .before .before .before .before .before .before .before .before .strides .ensures in (c .before .before .before .before .before .before .before .before .before .before .before .before .before .before .before .before .before .before .pre .0, c .before .before .before .before .before .before .before .before .before .before .before .before .before .before .before .before .before .before .pre .1, rw (c .before .focus-of .ensures) (a .leads .inv), a .leads .heap, blank-memo _, omega (arith, a .low))
 
 -- src/lib.rt:506:1
 same-length : tie.Need-same-length
@@ -41,7 +46,7 @@ same-length-2 c = search needs
 
 -- src/lib.rt:506:1
 returns : tie.Need-returns
-returns c = ?
+returns c = let b = rw (c .before .before .before .before .before .before .before .focus-of .ensures) at (c .before .before .before .before .before .run-with .ensures) in (rw (reaches-run _ _ (c .before .before .before .before .before .before .before .before .before .before .before .before .before .before .before .strides .ensures)) (b .0), c .before .before .room2 .given ∙ c .before .before .before .before .before .before .before .before .before .before .before .before .room .given)
 
 pub run-on-spec : {M : Type 1} → statement M
 run-on-spec =
