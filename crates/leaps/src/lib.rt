@@ -12,6 +12,8 @@ ghost use Rattle.memo.specs.Memo.{Memo};
 ghost use Rattle.leaps.specs.Lands.{Lands};
 use image::Layout;
 
+mod backs;
+
 // What a leap comes to. The word is a node, a value's word, or an address, and with an address the place is told.
 pub struct Leap {
     pub how: u64,
@@ -39,6 +41,42 @@ fn none() -> Leap
         place: 0,
         level: 0,
         steps: 0,
+    }
+}
+
+fn at_node(n: usize, level: usize, steps: u64) -> Leap
+    ensures { λ r. ⌜ r ≡ record { how = 1; word = n; place = 0; level = level; steps = steps } ⌝ }
+{
+    Leap {
+        how: NODE,
+        word: n as u64,
+        place: 0,
+        level: level,
+        steps: steps,
+    }
+}
+
+fn at_value(w: u64, level: usize, steps: u64) -> Leap
+    ensures { λ r. ⌜ r ≡ record { how = 2; word = w; place = 0; level = level; steps = steps } ⌝ }
+{
+    Leap {
+        how: VALUE,
+        word: w,
+        place: 0,
+        level: level,
+        steps: steps,
+    }
+}
+
+fn at_thrown(a: usize, place: usize, level: usize, steps: u64) -> Leap
+    ensures { λ r. ⌜ r ≡ record { how = 3; word = a; place = place; level = level; steps = steps } ⌝ }
+{
+    Leap {
+        how: THROWN,
+        word: a as u64,
+        place: place,
+        level: level,
+        steps: steps,
     }
 }
 
