@@ -10,7 +10,7 @@ use lib.ListN.{length, getD, set, length-set}
 use lib.Seq.{getD-set-same, getD-set-other}
 use borrow.Author.Tests.{ne-eqb}
 use Rattle.words.specs.declared.Value.{Value}
-use Rattle.image.specs.Numbers.{variables}
+use Rattle.image.specs.Numbers.{mostNodes, variables}
 use Rattle.image.specs.Trailer.{nodeCount}
 use Rattle.image.specs.Nodes.{nodeWord, kindOf, operands, nodeHolds}
 use Rattle.image.specs.Layout.{Good}
@@ -25,7 +25,7 @@ use Rattle.objects.specs.Spots.{FieldSpot, FieldRaises}
 use Rattle.redexes.specs.declared.Choice.the-variants.{Then, Otherwise}
 use Rattle.redexes.specs.Outcomes.{redexOf, Chooses, ThrowsAt}
 use Rattle.redexes.specs.RedexLaws.{add-sum, add-word}
-use Rattle.memo.specs.Memo.{IsField}
+use Rattle.memo.specs.Memo.{IsField, Memo}
 use Rattle.quick.specs.Known.{Tabled, Stored, Locals, Eval}
 use Rattle.room.specs.declared.Focus.{Focus}
 use Rattle.room.specs.declared.Focus.the-variants.{Node, Value as Word, Thrown}
@@ -38,7 +38,7 @@ use Rattle.room.specs.Leads.{Leads, Leaps}
 use Rattle.room.specs.LeadsLaws.{leads-on, leaps-on, leaps-move, leaps-step, leaps-kept}
 use Rattle.leaps.specs.declared.Leap.{Leap}
 use Rattle.leaps.specs.Lands.{Landing, Lands}
-use Rattle.leaps.specs.Backs.{Comes, Paired, Begun, Pair}
+use Rattle.leaps.specs.Backs.{Comes, Paired, Begun, Pair, Fielded}
 
 -- an accepted image has its nodes where the layout says
 pub good-tabled : (ws : List ℕ) (l : Layout) → Good ws l → Tabled ws (l .nodes)
@@ -90,6 +90,17 @@ module _ (ws : List ℕ) (D top : ℕ) (hs room : List ℕ) (l : ℕ) (f : Focus
 
 -- The value of w comes back to frame i.
 module _ (ws : List ℕ) (D : ℕ) (hs room : List ℕ) (p i w : ℕ) where
+  -- the node of a frame
+  pub first-node : (t : ℕ) → shapeOf t ≡ first → Comes ws D hs room t p i w → IsNode ws p t
+  first-node t e k = rw (k .placed) (back.is-first ws (k .nodes) D hs room i w (k .inv) t e (k .tagged))
+
+  pub second-node : (t : ℕ) → shapeOf t ≡ second → Comes ws D hs room t p i w → IsNode ws p (t - 16) × IsValue (word ws room i 2)
+  second-node t e k = rw (k .placed) (back.is-second ws (k .nodes) D hs room i w (k .inv) t e (k .tagged))
+
+  pub test-node : Comes ws D hs room 13 p i w → IsNode ws p 13
+  unfolding shapeOf
+  test-node k = rw (k .placed) (back.is-while ws (k .nodes) D hs room i w (k .inv) 13 (inl refl) (k .tagged))
+
   -- a leap of one step that leaves the frame, to a value
   step-value : (hs' room' : List ℕ) (u : ℕ) → Steps ws D hs room (suc i) (Word w) hs' room' i (Word u)
       → Lands ws D i hs room (suc i) (Word w) hs' room' (record { how = 2; word = u; place = 0; level = i; steps = 1 })
@@ -165,15 +176,11 @@ module _ (ws : List ℕ) (D : ℕ) (hs room : List ℕ) (p i w : ℕ) where
 
   pub get-field : Comes ws D hs room 7 p i w → IsField ws p
   unfolding shapeOf
-  get-field k =
-      let n = back.is-first ws (k .nodes) D hs room i w (k .inv) 7 refl (k .tagged) in
-      rw (k .placed) (n .0, inl (n .1))
+  get-field k = let n = first-node 7 refl k in (n .0, inl (n .1))
 
   pub set-field : Comes ws D hs room 24 p i w → IsField ws p
   unfolding shapeOf
-  set-field k =
-      let n = back.is-second ws (k .nodes) D hs room i w (k .inv) 24 refl (k .tagged) .0 in
-      rw (k .placed) (n .0, inr (n .1))
+  set-field k = let n = second-node 24 refl k .0 in (n .0, inr (n .1))
 
   -- a field is read
   module _ (k : Comes ws D hs room 7 p i w) where
@@ -303,3 +310,22 @@ module _ (ws : List ℕ) (D : ℕ) (hs room : List ℕ) (p i w : ℕ) (t u : ℕ
         → Lands ws D i hs room (suc i) (Word w) hs room (record { how = 2; word = u; place = 0; level = i; steps = m + 1 })
     pair-lands v m e r h =
         lands-value ws D i hs room (suc i) (Word w) hs room (m + 1) i (omega arith) u (pair-leaps v m e r) (omega arith)
+
+-- Where a value comes back, from what back_leap is promised.
+module _ {ws : List ℕ} {lay : Layout} {D : ℕ} {hs room memo : List ℕ} {i w : ℕ}
+    (pre : Good ws lay × Inv ws D room (suc i) (Word w) × HeapOk ws hs (getD room searchWord 0) × Memo ws memo × (suc i ≤ D)) where
+  pub comes : (t : ℕ) → tag ws room i ≡ t → Comes ws D hs room t (word ws room i 1) i w
+  comes t e =
+      record { nodes = pre .0 .nodes; inv = pre .1; heap = pre .2; tagged = e; placed = refl; below = pre .4 }
+
+  pub few-nodes : (p : ℕ) → p < nodeCount ws → p < mostNodes
+  few-nodes p h = omega (arith, pre .0 .lay .node-count, pre .0 .small .nodes)
+
+  pub fielded : (p : ℕ) → IsField ws p → Fielded hs memo p
+  fielded p f = record { image = ws; table = pre .3; words = pre .2 .words; field = f }
+
+  pub inner-node : (p k : ℕ) → IsNode ws p k → 0 < operands (kindOf k) (nodeWord ws p 3) → 1 ≤ p
+  inner-node p k n h = inner ws (lay .nodes) p k (good-tabled ws lay (pre .0)) n h
+
+  pub long-room : frameAt (suc i) ≤ length room
+  long-room = pre .1 .fit .long

@@ -11,6 +11,8 @@ ghost use Rattle.room.specs.Turn.{HeapOk, Inv};
 ghost use Rattle.memo.specs.Memo.{Memo};
 ghost use Rattle.leaps.specs.Lands.{Lands};
 use image::Layout;
+use room::FRAME_WORDS;
+use room::FRAMES;
 
 mod backs;
 
@@ -113,7 +115,26 @@ pub fn back_leap(
     requires { ⌜ Good (now ws) lay × Inv (now ws) depth (now room) (suc i) (Word w) × HeapOk (now ws) (now heap) (getD (now room) searchWord 0) × Memo (now ws) (now memo) × (suc i ≤ depth) ⌝ }
     ensures { λ r. ⌜ Lands (now (ws .entry)) depth i (now (heap .entry)) (now (room .entry)) (suc i) (Word w) (now (heap .exit)) (now (room .exit)) r ⌝ }
 {
-    none()
+    let at = FRAMES + FRAME_WORDS * i;
+    let p = room[at + 1] as usize;
+    match room[at] {
+        4 => backs::first_of_pair(ws, lay.nodes, room, 4, p, i, w),
+        5 => backs::first_of_pair(ws, lay.nodes, room, 5, p, i, w),
+        6 => backs::assign(ws, lay.nodes, room, p, i, w),
+        7 => backs::get(heap, memo, p, i, w),
+        8 => backs::first(room, 8, p, i, w),
+        10 => backs::block(room, i, w),
+        11 => at_node(p - 1, i, 1),
+        12 => backs::choice(ws, lay.nodes, p, i, w),
+        13 => backs::test(room, p, i, w),
+        14 => backs::throw(p, i, w),
+        15 => at_value(w, i, 1),
+        20 => backs::second_of_pair(4, i, room[at + 2], w),
+        21 => backs::second_of_pair(5, i, room[at + 2], w),
+        24 => backs::set(heap, memo, p, i, room[at + 2], w),
+        29 => at_node(p, i, 1),
+        _ => none(),
+    }
 }
 
 // An address that is thrown comes to frame i.
