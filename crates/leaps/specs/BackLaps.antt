@@ -20,30 +20,36 @@ use Rattle.rules.specs.Program.{program}
 use Rattle.rules.specs.Heap.{heapOf}
 use Rattle.rules.specs.Step.{sameValue, eqRedex}
 use Rattle.laws.specs.Values.{valueAt, IsValue}
-use Rattle.laws.specs.Trees.{operandCount, operand-below}
+use Rattle.laws.specs.Trees.{operand-below}
+use Rattle.laws.specs.Tags.{address-word}
 use Rattle.objects.specs.Spots.{FieldSpot, FieldRaises}
 use Rattle.redexes.specs.declared.Choice.the-variants.{Then, Otherwise}
-use Rattle.redexes.specs.Outcomes.{redexOf, Chooses, ThrowsAt}
+use Rattle.redexes.specs.declared.Catch.the-variants.{Catches, Passes}
+use Rattle.redexes.specs.Outcomes.{redexOf, Chooses, ThrowsAt, Tries}
 use Rattle.redexes.specs.RedexLaws.{add-sum, add-word}
 use Rattle.memo.specs.Memo.{IsField, Memo}
 use Rattle.quick.specs.Known.{Tabled, Stored, Locals, Eval}
 use Rattle.room.specs.declared.Focus.{Focus}
 use Rattle.room.specs.declared.Focus.the-variants.{Node, Value as Word, Thrown}
 use Rattle.room.specs.Room.{searchWord, frameAt, first, second, shapeOf, word, tag, IsNode, Fit}
-use Rattle.room.specs.RoomLaws.{Kept, kept-refl, kept-set}
+use Rattle.room.specs.RoomLaws.{Kept, kept-refl, kept-set, pushBlock}
 use Rattle.room.specs.Turn.{HeapOk, Inv, Moves, Steps}
 use Rattle.room.specs.Armed.{armed, armedSeq}
 use Rattle.room.specs.Back as back
+use Rattle.room.specs.Unwind.{pass-try, catch-steps}
 use Rattle.room.specs.Leads.{Leads, Leaps}
 use Rattle.room.specs.LeadsLaws.{leads-on, leaps-on, leaps-move, leaps-step, leaps-kept}
 use Rattle.leaps.specs.declared.Leap.{Leap}
 use Rattle.leaps.specs.Lands.{Landing, Lands}
-use Rattle.leaps.specs.Backs.{Comes, Paired, Begun, Pair, Fielded}
+use Rattle.leaps.specs.Backs.{Comes, Paired, Begun, Pair, Fielded, Tried}
 
 -- an accepted image has its nodes where the layout says
 pub good-tabled : (ws : List ℕ) (l : Layout) → Good ws l → Tabled ws (l .nodes)
 good-tabled ws l g =
     record { nodes-at = g .lay .nodes-at; within = omega (arith, g .lay .whole, g .lay .node-count); holds = g .nodes }
+
+pub few-nodes : {ws : List ℕ} {l : Layout} → Good ws l → (p : ℕ) → p < nodeCount ws → p < mostNodes
+few-nodes g p h = omega (arith, g .lay .node-count, g .small .nodes)
 
 pub fit-stored : (ws room : List ℕ) (l : ℕ) → Fit ws room l → Stored ws room
 fit-stored ws room l f = record { long = omega (arith, f .long); held-ok = f .held-ok }
@@ -318,9 +324,6 @@ module _ {ws : List ℕ} {lay : Layout} {D : ℕ} {hs room memo : List ℕ} {i w
   comes t e =
       record { nodes = pre .0 .nodes; inv = pre .1; heap = pre .2; tagged = e; placed = refl; below = pre .4 }
 
-  pub few-nodes : (p : ℕ) → p < nodeCount ws → p < mostNodes
-  few-nodes p h = omega (arith, pre .0 .lay .node-count, pre .0 .small .nodes)
-
   pub fielded : (p : ℕ) → IsField ws p → Fielded hs memo p
   fielded p f = record { image = ws; table = pre .3; words = pre .2 .words; field = f }
 
@@ -329,3 +332,29 @@ module _ {ws : List ℕ} {lay : Layout} {D : ℕ} {hs room memo : List ℕ} {i w
 
   pub long-room : frameAt (suc i) ≤ length room
   long-room = pre .1 .fit .long
+
+-- Address a, thrown at place q, comes to frame i.
+module _ (ws : List ℕ) (D : ℕ) (hs room : List ℕ) (i a q : ℕ) where
+  pub unwound : (p : ℕ) (room' : List ℕ) → Steps ws D hs room (suc i) (Thrown a q) hs room' i (Thrown a p)
+      → Lands ws D i hs room (suc i) (Thrown a q) hs room' (record { how = 3; word = a; place = p; level = i; steps = 1 })
+  unwound p room' s =
+      lands-thrown ws D i hs room (suc i) (Thrown a q) hs room' 1 i (omega arith) a p (leaps-step ws D s)
+
+  module _ (p : ℕ) (k : Tried ws D hs room p i a q) where
+    pub pass-lands : Tries ws hs (nodeWord ws p 2) a Passes
+        → Lands ws D i hs room (suc i) (Thrown a q) hs room (record { how = 3; word = a; place = p; level = i; steps = 1 })
+    pass-lands e =
+        let z = rw (k .placed) at e in
+        rw (k .placed) (unwound _ room (pass-try ws (k .nodes) D hs room i a q (k .inv) (k .heap) (k .tagged) (z _ _ _ _)))
+
+    pub catch-lands : Tries ws hs (nodeWord ws p 2) a Catches
+        → Lands ws D i hs room (suc i) (Thrown a q) hs
+        (pushBlock room i p (nodeWord ws p 3) (4 + nodeWord ws p 2) (suc (4 * 2 ^ 32 + a)))
+        (record { how = 1; word = p - 1; place = 0; level = suc i; steps = 1 })
+    unfolding operand
+    catch-lands e =
+        let z = rw (k .placed) at e in
+        let u = address-word a (k .inv .here) in
+        rw (k .placed)
+        (lands-node ws D i hs room (suc i) (Thrown a q) hs _ 1 (suc i) (omega arith) _
+        (leaps-step ws D (catch-steps ws (k .nodes) D hs room i a q (k .inv) (k .heap) (k .tagged) _ (u .1) (u .0) (z _ _ _ _))))

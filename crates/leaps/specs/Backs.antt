@@ -52,3 +52,11 @@ pub record Fielded (hs memo : List ℕ) (p : ℕ) : Type 0 where
   pub table : Memo image memo
   pub words : Words (program image) (classCount image) hs
   pub field : IsField image p
+
+-- Address a, thrown at place q, comes to frame i, which is that of the Try at node p.
+pub record Tried (ws : List ℕ) (D : ℕ) (hs room : List ℕ) (p i a q : ℕ) : Type 0 where
+  pub nodes : (n : ℕ) → n < nodeCount ws → nodeHolds ws n ≡ true
+  pub inv : Inv ws D room (suc i) (Thrown a q)
+  pub heap : HeapOk ws hs (getD room searchWord 0)
+  pub tagged : tag ws room i ≡ 15
+  pub placed : p ≡ word ws room i 1

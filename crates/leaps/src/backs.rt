@@ -3,20 +3,25 @@ ghost use mathlib.Core.Path.{_≡_};
 ghost use mathlib.Core.List.{List};
 ghost use Prim.Native.Nat.{ℕ, suc, _+_, _≤_, _<_};
 ghost use lib.ListN.{length, getD};
+ghost use Rattle.words.specs.Value.{addresses};
 ghost use Rattle.image.specs.Numbers.{mostNodes, variables};
-ghost use Rattle.image.specs.Trailer.{nodeCount};
+ghost use Rattle.image.specs.Trailer.{classCount, nodeCount};
 ghost use Rattle.image.specs.Nodes.{nodeWord};
 ghost use Rattle.rules.specs.Trees.{operand};
+ghost use Rattle.rules.specs.Program.{program};
 ghost use Rattle.laws.specs.Trees.{operandCount};
 ghost use Rattle.laws.specs.Values.{IsValue};
+ghost use Rattle.laws.specs.Heap.{Words};
 ghost use Rattle.memo.specs.Memo.{Memo};
 ghost use Rattle.quick.specs.Known.{Tabled, Stored};
-ghost use Rattle.room.specs.declared.Focus.the-variants.{Value as Word};
+ghost use Rattle.room.specs.declared.Focus.the-variants.{Value as Word, Thrown};
 ghost use Rattle.room.specs.Room.{frameAt, word, IsNode};
 ghost use Rattle.leaps.specs.Lands.{Lands};
-ghost use Rattle.leaps.specs.Backs.{Comes, Lapses, Paired, Begun, Pair, Fielded};
+ghost use Rattle.leaps.specs.Backs.{Comes, Lapses, Paired, Begun, Pair, Fielded, Tried};
 use crate::Leap;
 use heap::NULL_POINTER;
+use room::ADDRESS;
+use room::CLASS;
 use room::FRAME_WORDS;
 use room::FRAMES;
 use room::LOOP;
@@ -191,4 +196,30 @@ pub fn throw(p: usize, i: usize, w: u64) -> Leap
         return crate::at_thrown((w % TAG) as usize, p, i, 0);
     }
     crate::none()
+}
+
+// A thrown address comes to a Try at node p. Of a class that was not looked up before nothing is told.
+pub fn unwind_try(
+    ws: &[u32],
+    nodes: usize,
+    heap: &[u64],
+    room: &mut [u64],
+    memo: &[u64],
+    i: usize,
+    a: usize,
+    p: usize,
+) -> Leap
+    requires { ⌜ Tabled (now ws) nodes × Memo (now ws) (now memo) × Words (program (now ws)) (classCount (now ws)) (now heap) × IsNode (now ws) p 15 × (p < mostNodes) × (a < addresses) × (frameAt (suc i) ≤ length (now room)) ⌝ }
+    ensures { λ r. ⌜ ((D q : ℕ) → Tried (now (ws .entry)) D (now (heap .entry)) (now (room .entry)) p i a q → Lands (now (ws .entry)) D i (now (heap .entry)) (now (room .entry)) (suc i) (Thrown a q) (now (heap .entry)) (now (room .exit)) r) ⌝ }
+{
+    match memo::caught(heap, memo, p, a) {
+        1 => crate::at_thrown(a, p, i, 1),
+        2 => {
+            let c = word_at(ws, nodes, p, 2) as u64;
+            let x = word_at(ws, nodes, p, 3) as usize;
+            enter::push_block(room, i, p, x, CLASS + c, ADDRESS + a as u64 + 1);
+            crate::at_node(p - 1, i + 1, 1)
+        }
+        _ => crate::none(),
+    }
 }

@@ -152,5 +152,15 @@ pub fn unwind_leap(
     requires { ⌜ Good (now ws) lay × Inv (now ws) depth (now room) (suc i) (Thrown a q) × HeapOk (now ws) (now heap) (getD (now room) searchWord 0) × Memo (now ws) (now memo) × (suc i ≤ depth) ⌝ }
     ensures { λ r. ⌜ Lands (now (ws .entry)) depth i (now (heap .entry)) (now (room .entry)) (suc i) (Thrown a q) (now (heap .entry)) (now (room .exit)) r ⌝ }
 {
-    none()
+    let at = FRAMES + FRAME_WORDS * i;
+    let p = room[at + 1] as usize;
+    match room[at] {
+        10 => {
+            let x = room[at + 2] as usize;
+            room[x] = room[at + 4];
+            at_thrown(a, p, i, 1)
+        }
+        15 => backs::unwind_try(ws, lay.nodes, heap, room, memo, i, a, p),
+        _ => at_thrown(a, p, i, 1),
+    }
 }

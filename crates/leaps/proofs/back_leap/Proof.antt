@@ -70,7 +70,7 @@ assign-requires c κs = (good-tabled _ _ (c .before .before .before .before .bef
 -- src/lib.rt:124:14
 get-requires : tie.Need-get-requires
 unfolding shapeOf kindOf operands
-get-requires c κs = let f = get-field _ _ _ _ _ _ _ (comes (c .before .before .before .before .before .before .before .before .pre) 7 (c .before .match .keys4)) in (few-nodes (c .before .before .before .before .before .before .before .before .pre) _ (f .0), c .before .before .before .before .before .before .before .before .pre .1 .here, fielded (c .before .before .before .before .before .before .before .before .pre) _ f)
+get-requires c κs = let f = get-field _ _ _ _ _ _ _ (comes (c .before .before .before .before .before .before .before .before .pre) 7 (c .before .match .keys4)) in (few-nodes (c .before .before .before .before .before .before .before .before .pre .0) _ (f .0), c .before .before .before .before .before .before .before .before .pre .1 .here, fielded (c .before .before .before .before .before .before .before .before .pre) _ f)
 
 -- src/lib.rt:125:14
 first-requires : tie.Need-first-requires
@@ -157,7 +157,7 @@ slice-read-set c = search needs
 -- src/lib.rt:134:15
 set-requires : tie.Need-set-requires
 unfolding shapeOf kindOf operands
-set-requires c κs = let k = comes (c .before .before .before .before .before .before .before .before .before .pre) 24 (c .before .before .match .keys14) in let f = set-field _ _ _ _ _ _ _ k in (few-nodes (c .before .before .before .before .before .before .before .before .before .pre) _ (f .0), second-node _ _ _ _ _ _ _ 24 refl k .1, fielded (c .before .before .before .before .before .before .before .before .before .pre) _ f)
+set-requires c κs = let k = comes (c .before .before .before .before .before .before .before .before .before .pre) 24 (c .before .before .match .keys14) in let f = set-field _ _ _ _ _ _ _ k in (few-nodes (c .before .before .before .before .before .before .before .before .before .pre .0) _ (f .0), second-node _ _ _ _ _ _ _ 24 refl k .1, fielded (c .before .before .before .before .before .before .before .before .before .pre) _ f)
 
 -- src/lib.rt:135:15
 at-node-requires-2 : tie.Need-at-node-requires-2
