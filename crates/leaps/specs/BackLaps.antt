@@ -10,14 +10,12 @@ use lib.ListN.{length, getD, set, length-set}
 use lib.Seq.{getD-set-same, getD-set-other}
 use borrow.Author.Tests.{ne-eqb}
 use Rattle.words.specs.declared.Value.{Value}
-use Rattle.image.specs.Numbers.{mostNodes, variables}
+use Rattle.image.specs.Numbers.{mostNodes}
 use Rattle.image.specs.Trailer.{nodeCount}
 use Rattle.image.specs.Nodes.{nodeWord, kindOf, operands, nodeHolds}
 use Rattle.image.specs.Layout.{Good}
 use Rattle.image.specs.declared.Layout.{Layout}
 use Rattle.rules.specs.Trees.{operand}
-use Rattle.rules.specs.Program.{program}
-use Rattle.rules.specs.Heap.{heapOf}
 use Rattle.rules.specs.Step.{sameValue, eqRedex}
 use Rattle.laws.specs.Values.{valueAt, IsValue}
 use Rattle.laws.specs.Trees.{operand-below}
@@ -28,7 +26,7 @@ use Rattle.redexes.specs.declared.Catch.the-variants.{Catches, Passes}
 use Rattle.redexes.specs.Outcomes.{redexOf, Chooses, ThrowsAt, Tries}
 use Rattle.redexes.specs.RedexLaws.{add-sum, add-word}
 use Rattle.memo.specs.Memo.{IsField, Memo}
-use Rattle.quick.specs.Known.{Tabled, Stored, Locals, Eval}
+use Rattle.quick.specs.Known.{Tabled, Stored, Eval}
 use Rattle.room.specs.declared.Focus.{Focus}
 use Rattle.room.specs.declared.Focus.the-variants.{Node, Value as Word, Thrown}
 use Rattle.room.specs.Room.{searchWord, frameAt, first, second, shapeOf, word, tag, IsNode, Fit}
@@ -37,10 +35,10 @@ use Rattle.room.specs.Turn.{HeapOk, Inv, Moves, Steps}
 use Rattle.room.specs.Armed.{armed, armedSeq}
 use Rattle.room.specs.Back as back
 use Rattle.room.specs.Unwind.{pass-try, catch-steps}
-use Rattle.room.specs.Leads.{Leads, Leaps}
+use Rattle.room.specs.Leads.{Leaps}
 use Rattle.room.specs.LeadsLaws.{leads-on, leaps-on, leaps-move, leaps-step, leaps-kept}
 use Rattle.leaps.specs.declared.Leap.{Leap}
-use Rattle.leaps.specs.Lands.{Landing, Lands}
+use Rattle.leaps.specs.Lands.{Lands}
 use Rattle.leaps.specs.Backs.{Comes, Paired, Begun, Pair, Fielded, Tried}
 
 -- an accepted image has its nodes where the layout says

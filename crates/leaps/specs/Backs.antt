@@ -29,8 +29,8 @@ pub record Comes (ws : List ℕ) (D : ℕ) (hs room : List ℕ) (t p i w : ℕ) 
   pub below : suc i ≤ D
 
 -- A leap of such a value in every heap: the heap is left alone.
-abbrev pub Lapses : (ws room : List ℕ) (t p i w : ℕ) (room' : List ℕ) → Leap → Type 0
-Lapses ws room t p i w room' r =
+abbrev pub LandsBack : (ws room : List ℕ) (t p i w : ℕ) (room' : List ℕ) → Leap → Type 0
+LandsBack ws room t p i w room' r =
     (D : ℕ) (hs : List ℕ) → Comes ws D hs room t p i w → Lands ws D i hs room (suc i) (Word w) hs room' r
 
 -- the tags of Add and Eq, and of Set, where the first operand is active

@@ -17,7 +17,7 @@ ghost use Rattle.quick.specs.Known.{Tabled, Stored};
 ghost use Rattle.room.specs.declared.Focus.the-variants.{Value as Word, Thrown};
 ghost use Rattle.room.specs.Room.{frameAt, word, IsNode};
 ghost use Rattle.leaps.specs.Lands.{Lands};
-ghost use Rattle.leaps.specs.Backs.{Comes, Lapses, Paired, Begun, Pair, Fielded, Tried};
+ghost use Rattle.leaps.specs.Backs.{Comes, LandsBack, Paired, Begun, Pair, Fielded, Tried};
 use crate::Leap;
 use heap::NULL_POINTER;
 use room::ADDRESS;
@@ -62,7 +62,7 @@ fn pair(t: u64, v: u64, w: u64) -> u64
 // The first operand of an Add, an Eq or a Set, whose tag is t: the frame keeps it, and the second is gone into.
 pub fn first(room: &mut [u64], t: u64, p: usize, i: usize, w: u64) -> Leap
     requires { ⌜ Begun t × (1 ≤ p) × (frameAt (suc i) ≤ length (now room)) ⌝ }
-    ensures { λ r. ⌜ ((ws : List ℕ) → Lapses ws (now (room .entry)) t p i w (now (room .exit)) r) ⌝ }
+    ensures { λ r. ⌜ ((ws : List ℕ) → LandsBack ws (now (room .entry)) t p i w (now (room .exit)) r) ⌝ }
 {
     let at = FRAMES + FRAME_WORDS * i;
     room[at] = t + SECOND;
@@ -81,7 +81,7 @@ pub fn first_of_pair(
     w: u64,
 ) -> Leap
     requires { ⌜ Tabled (now ws) nodes × Stored (now ws) (now room) × Paired t × (1 ≤ p) × (p < nodeCount (now ws)) × (frameAt (suc i) ≤ length (now room)) × IsValue w ⌝ }
-    ensures { λ r. ⌜ Lapses (now (ws .entry)) (now (room .entry)) t p i w (now (room .exit)) r ⌝ }
+    ensures { λ r. ⌜ LandsBack (now (ws .entry)) (now (room .entry)) t p i w (now (room .exit)) r ⌝ }
 {
     let b = quick::leaf(ws, nodes, room, p - 1);
     if b.held == 0 {
@@ -97,7 +97,7 @@ pub fn first_of_pair(
 // The second operand of an Add or an Eq, whose first one's word is v.
 pub fn second_of_pair(t: u64, i: usize, v: u64, w: u64) -> Leap
     requires { ⌜ Paired t × IsValue v × IsValue w ⌝ }
-    ensures { λ r. ⌜ ((ws room : List ℕ) (p : ℕ) → word ws room i 2 ≡ v → Lapses ws room (t + 16) p i w room r) ⌝ }
+    ensures { λ r. ⌜ ((ws room : List ℕ) (p : ℕ) → word ws room i 2 ≡ v → LandsBack ws room (t + 16) p i w room r) ⌝ }
 {
     let h = pair(t, v, w);
     if h == 0 {
@@ -109,7 +109,7 @@ pub fn second_of_pair(t: u64, i: usize, v: u64, w: u64) -> Leap
 // An Assign. Where the variable is set, no block takes the value up.
 pub fn assign(ws: &[u32], nodes: usize, room: &mut [u64], p: usize, i: usize, w: u64) -> Leap
     requires { ⌜ Tabled (now ws) nodes × IsNode (now ws) p 6 × (frameAt (suc i) ≤ length (now room)) × IsValue w ⌝ }
-    ensures { λ r. ⌜ Lapses (now (ws .entry)) (now (room .entry)) 6 p i w (now (room .exit)) r ⌝ }
+    ensures { λ r. ⌜ LandsBack (now (ws .entry)) (now (room .entry)) 6 p i w (now (room .exit)) r ⌝ }
 {
     let x = word_at(ws, nodes, p, 2) as usize;
     if room[x] == 0 {
@@ -150,7 +150,7 @@ pub fn set(heap: &mut [u64], memo: &[u64], p: usize, i: usize, v: u64, w: u64) -
 // A Block is over: its variable is again what it was outside.
 pub fn block(room: &mut [u64], i: usize, w: u64) -> Leap
     requires { ⌜ (getD (now room) (frameAt i + 2) 0 < variables) × (frameAt (suc i) ≤ length (now room)) ⌝ }
-    ensures { λ r. ⌜ ((ws : List ℕ) (p : ℕ) → Lapses ws (now (room .entry)) 10 p i w (now (room .exit)) r) ⌝ }
+    ensures { λ r. ⌜ ((ws : List ℕ) (p : ℕ) → LandsBack ws (now (room .entry)) 10 p i w (now (room .exit)) r) ⌝ }
 {
     let at = FRAMES + FRAME_WORDS * i;
     let x = room[at + 2] as usize;
@@ -161,7 +161,7 @@ pub fn block(room: &mut [u64], i: usize, w: u64) -> Leap
 // An If.
 pub fn choice(ws: &[u32], nodes: usize, p: usize, i: usize, w: u64) -> Leap
     requires { ⌜ Tabled (now ws) nodes × IsNode (now ws) p 12 ⌝ }
-    ensures { λ r. ⌜ ((room : List ℕ) → Lapses (now (ws .entry)) room 12 p i w room r) ⌝ }
+    ensures { λ r. ⌜ ((room : List ℕ) → LandsBack (now (ws .entry)) room 12 p i w room r) ⌝ }
 {
     if w == 2 * TAG + 1 {
         return crate::at_node(before_last(ws, nodes, p), i, 1);
@@ -175,7 +175,7 @@ pub fn choice(ws: &[u32], nodes: usize, p: usize, i: usize, w: u64) -> Leap
 // The If of a loop: it becomes the Seq of the body and the loop, or the loop is over.
 pub fn test(room: &mut [u64], p: usize, i: usize, w: u64) -> Leap
     requires { ⌜ (1 ≤ p) × (frameAt (suc i) ≤ length (now room)) ⌝ }
-    ensures { λ r. ⌜ ((ws : List ℕ) → Lapses ws (now (room .entry)) 13 p i w (now (room .exit)) r) ⌝ }
+    ensures { λ r. ⌜ ((ws : List ℕ) → LandsBack ws (now (room .entry)) 13 p i w (now (room .exit)) r) ⌝ }
 {
     if w == 2 * TAG + 1 {
         room[FRAMES + FRAME_WORDS * i] = LOOP;
@@ -190,7 +190,7 @@ pub fn test(room: &mut [u64], p: usize, i: usize, w: u64) -> Leap
 // A Throw of an address.
 pub fn throw(p: usize, i: usize, w: u64) -> Leap
     requires { ⌜ IsValue w ⌝ }
-    ensures { λ r. ⌜ ((ws room : List ℕ) → Lapses ws room 14 p i w room r) ⌝ }
+    ensures { λ r. ⌜ ((ws room : List ℕ) → LandsBack ws room 14 p i w room r) ⌝ }
 {
     if w / TAG == 4 {
         return crate::at_thrown((w % TAG) as usize, p, i, 0);

@@ -1,265 +1,194 @@
-use mathlib.Core.Logic.{inl, inr}
-use mathlib.Core.Path.{refl}
+-- `leaps::back_leap` meets its contract.
 use Rattle.image.specs.Nodes.{kindOf, operands}
+use Rattle.leaps.proofs.back_leap.Statement.{statement}
+use Rattle.leaps.specs.BackLaps.{comes, few-nodes, fielded, first-node, fit-stored, get-field, good-tabled, inner-node, lands-none, long-room, loop-lands, second-node, seq-lands, set-field, test-node, try-lands}
 use Rattle.room.specs.Room.{shapeOf}
 use Rattle.room.specs.RoomLaws.{fit-variable, kept-refl}
-use Rattle.leaps.specs.BackLaps.{comes, few-nodes, fielded, first-node, fit-stored, get-field, good-tabled, inner-node, lands-none, long-room, loop-lands, second-node, seq-lands, set-field, test-node, try-lands}
-use native.Mathlib.Omega.{arith}
 use borrow.Author.Needs.{needs}
-use Rattle.leaps.proofs.back_leap.Statement.{statement}
+use mathlib.Core.Logic.{inl, inr}
+use mathlib.Core.Path.{refl}
+use native.Mathlib.Omega.{arith}
 use Rattle.leaps.proofs.back_leap.Tie as tie
-use Rattle.leaps.proofs.back_leap.Reads as reads
-use Rattle.leaps.proofs.back_leap.Lts as lts
-use Rattle.leaps.proofs.at_node.Reads as at-node-reads
-use Rattle.leaps.proofs.at_value.Reads as at-value-reads
-use Rattle.leaps.proofs.backs.assign.Reads as assign-reads
-use Rattle.leaps.proofs.backs.block.Reads as block-reads
-use Rattle.leaps.proofs.backs.choice.Reads as choice-reads
-use Rattle.leaps.proofs.backs.first.Reads as first-reads
-use Rattle.leaps.proofs.backs.first_of_pair.Reads as first-of-pair-reads
-use Rattle.leaps.proofs.backs.get.Reads as get-reads
-use Rattle.leaps.proofs.backs.second_of_pair.Reads as second-of-pair-reads
-use Rattle.leaps.proofs.backs.set.Reads as set-reads
-use Rattle.leaps.proofs.backs.test.Reads as test-reads
-use Rattle.leaps.proofs.backs.throw.Reads as throw-reads
-use Rattle.leaps.proofs.none.Reads as none-reads
 
--- src/lib.rt:118:23
 mul-at : tie.Need-mul-at
 mul-at c = search needs
 
--- src/lib.rt:118:14
 add-at : tie.Need-add-at
 add-at c = search needs
 
--- src/lib.rt:119:18
 add-p : tie.Need-add-p
 add-p c = search needs
 
--- src/lib.rt:119:13
 mul-p : tie.Need-mul-p
 mul-p c = search needs
 
--- src/lib.rt:119:13
 slice-read-p : tie.Need-slice-read-p
 slice-read-p c = search needs
 
--- src/lib.rt:120:11
 mul-match : tie.Need-mul-match
 mul-match c = search needs
 
--- src/lib.rt:120:11
 slice-read-match : tie.Need-slice-read-match
 slice-read-match c = search needs
 
--- src/lib.rt:121:14
 first-of-pair-requires : tie.Need-first-of-pair-requires
 unfolding shapeOf kindOf operands
 first-of-pair-requires c κs = let n = first-node _ _ _ _ _ _ _ 4 refl (comes (c .before .before .before .before .before .before .before .before .pre) 4 (c .before .match .keys1)) in (good-tabled _ _ (c .before .before .before .before .before .before .before .before .pre .0), fit-stored _ _ _ (c .before .before .before .before .before .before .before .before .pre .1 .fit), inl refl, inner-node (c .before .before .before .before .before .before .before .before .pre) _ 4 n (omega arith), n .0, long-room (c .before .before .before .before .before .before .before .before .pre), c .before .before .before .before .before .before .before .before .pre .1 .here)
 
--- src/lib.rt:122:14
 first-of-pair-requires-2 : tie.Need-first-of-pair-requires-2
 unfolding shapeOf kindOf operands
 first-of-pair-requires-2 c κs = let n = first-node _ _ _ _ _ _ _ 5 refl (comes (c .before .before .before .before .before .before .before .before .pre) 5 (c .before .match .keys2)) in (good-tabled _ _ (c .before .before .before .before .before .before .before .before .pre .0), fit-stored _ _ _ (c .before .before .before .before .before .before .before .before .pre .1 .fit), inr refl, inner-node (c .before .before .before .before .before .before .before .before .pre) _ 5 n (omega arith), n .0, long-room (c .before .before .before .before .before .before .before .before .pre), c .before .before .before .before .before .before .before .before .pre .1 .here)
 
--- src/lib.rt:123:14
 assign-requires : tie.Need-assign-requires
 unfolding shapeOf kindOf operands
 assign-requires c κs = (good-tabled _ _ (c .before .before .before .before .before .before .before .before .pre .0), first-node _ _ _ _ _ _ _ 6 refl (comes (c .before .before .before .before .before .before .before .before .pre) 6 (c .before .match .keys3)), long-room (c .before .before .before .before .before .before .before .before .pre), c .before .before .before .before .before .before .before .before .pre .1 .here)
 
--- src/lib.rt:124:14
 get-requires : tie.Need-get-requires
 unfolding shapeOf kindOf operands
 get-requires c κs = let f = get-field _ _ _ _ _ _ _ (comes (c .before .before .before .before .before .before .before .before .pre) 7 (c .before .match .keys4)) in (few-nodes (c .before .before .before .before .before .before .before .before .pre .0) _ (f .0), c .before .before .before .before .before .before .before .before .pre .1 .here, fielded (c .before .before .before .before .before .before .before .before .pre) _ f)
 
--- src/lib.rt:125:14
 first-requires : tie.Need-first-requires
 unfolding shapeOf kindOf operands
 first-requires c κs = let n = first-node _ _ _ _ _ _ _ 8 refl (comes (c .before .before .before .before .before .before .before .before .pre) 8 (c .before .match .keys5)) in (inr refl, inner-node (c .before .before .before .before .before .before .before .before .pre) _ 8 n (omega arith), long-room (c .before .before .before .before .before .before .before .before .pre))
 
--- src/lib.rt:126:15
 block-requires : tie.Need-block-requires
 block-requires c κs = (fit-variable (c .before .before .before .before .before .before .before .before .pre .1 .fit) (c .before .match .keys6), long-room (c .before .before .before .before .before .before .before .before .pre))
 
--- src/lib.rt:127:23
 sub-at-node : tie.Need-sub-at-node
 unfolding shapeOf kindOf operands
 sub-at-node c = let n = first-node _ _ _ _ _ _ _ 11 refl (comes (c .before .before .before .before .before .before .before .pre) 11 (c .match .keys7)) in inner-node (c .before .before .before .before .before .before .before .pre) _ 11 n (omega arith)
 
--- src/lib.rt:127:15
 at-node-requires : tie.Need-at-node-requires
 at-node-requires c κs = search needs
 
--- src/lib.rt:128:15
 choice-requires : tie.Need-choice-requires
 unfolding shapeOf kindOf operands
 choice-requires c κs = (good-tabled _ _ (c .before .before .before .before .before .before .before .pre .0), first-node _ _ _ _ _ _ _ 12 refl (comes (c .before .before .before .before .before .before .before .pre) 12 (c .match .keys8)))
 
--- src/lib.rt:129:15
 test-requires : tie.Need-test-requires
 unfolding shapeOf kindOf operands
 test-requires c κs = let n = test-node _ _ _ _ _ _ _ (comes (c .before .before .before .before .before .before .before .before .pre) 13 (c .before .match .keys9)) in (inner-node (c .before .before .before .before .before .before .before .before .pre) _ 13 n (omega arith), long-room (c .before .before .before .before .before .before .before .before .pre))
 
--- src/lib.rt:130:15
 throw-requires : tie.Need-throw-requires
 throw-requires c κs = c .before .before .before .before .before .before .before .pre .1 .here
 
--- src/lib.rt:131:15
 at-value-requires : tie.Need-at-value-requires
 at-value-requires c κs = search needs
 
--- src/lib.rt:132:48
 add-second-of-pair : tie.Need-add-second-of-pair
 add-second-of-pair c = search needs
 
--- src/lib.rt:132:43
 mul-second-of-pair : tie.Need-mul-second-of-pair
 mul-second-of-pair c = search needs
 
--- src/lib.rt:132:43
 slice-read-second-of-pair : tie.Need-slice-read-second-of-pair
 slice-read-second-of-pair c = search needs
 
--- src/lib.rt:132:15
 second-of-pair-requires : tie.Need-second-of-pair-requires
 unfolding shapeOf kindOf operands
 second-of-pair-requires c κs = (inl refl, second-node _ _ _ _ _ _ _ 20 refl (comes (c .before .before .before .before .before .before .before .before .pre) 20 (c .before .match .keys12)) .1, c .before .before .before .before .before .before .before .before .pre .1 .here)
 
--- src/lib.rt:133:48
 add-second-of-pair-2 : tie.Need-add-second-of-pair-2
 add-second-of-pair-2 c = search needs
 
--- src/lib.rt:133:43
 mul-second-of-pair-2 : tie.Need-mul-second-of-pair-2
 mul-second-of-pair-2 c = search needs
 
--- src/lib.rt:133:43
 slice-read-second-of-pair-2 : tie.Need-slice-read-second-of-pair-2
 slice-read-second-of-pair-2 c = search needs
 
--- src/lib.rt:133:15
 second-of-pair-requires-2 : tie.Need-second-of-pair-requires-2
 unfolding shapeOf kindOf operands
 second-of-pair-requires-2 c κs = (inr refl, second-node _ _ _ _ _ _ _ 21 refl (comes (c .before .before .before .before .before .before .before .before .pre) 21 (c .before .match .keys13)) .1, c .before .before .before .before .before .before .before .before .pre .1 .here)
 
--- src/lib.rt:134:49
 add-set : tie.Need-add-set
 add-set c = search needs
 
--- src/lib.rt:134:44
 mul-set : tie.Need-mul-set
 mul-set c = search needs
 
--- src/lib.rt:134:44
 slice-read-set : tie.Need-slice-read-set
 slice-read-set c = search needs
 
--- src/lib.rt:134:15
 set-requires : tie.Need-set-requires
 unfolding shapeOf kindOf operands
 set-requires c κs = let k = comes (c .before .before .before .before .before .before .before .before .before .pre) 24 (c .before .before .match .keys14) in let f = set-field _ _ _ _ _ _ _ k in (few-nodes (c .before .before .before .before .before .before .before .before .before .pre .0) _ (f .0), second-node _ _ _ _ _ _ _ 24 refl k .1, fielded (c .before .before .before .before .before .before .before .before .before .pre) _ f)
 
--- src/lib.rt:135:15
 at-node-requires-2 : tie.Need-at-node-requires-2
 at-node-requires-2 c κs = search needs
 
--- src/lib.rt:136:14
 none-requires : tie.Need-none-requires
 none-requires c κs = search needs
 
--- src/lib.rt:105:1
 same-length : tie.Need-same-length
 same-length c = search needs
 
--- src/lib.rt:105:1
 returns : tie.Need-returns
 returns c = c .before .before .first-of-pair .ensures _ _ (comes (c .before .before .before .before .before .before .before .before .before .before .before .pre) 4 (c .before .before .before .before .match .keys1))
 
--- src/lib.rt:105:1
 same-length-2 : tie.Need-same-length-2
 same-length-2 c = search needs
 
--- src/lib.rt:105:1
 returns-2 : tie.Need-returns-2
 returns-2 c = c .before .before .first-of-pair2 .ensures _ _ (comes (c .before .before .before .before .before .before .before .before .before .before .before .pre) 5 (c .before .before .before .before .match .keys2))
 
--- src/lib.rt:105:1
 same-length-3 : tie.Need-same-length-3
 same-length-3 c = search needs
 
--- src/lib.rt:105:1
 returns-3 : tie.Need-returns-3
 returns-3 c = c .before .before .assign .ensures _ _ (comes (c .before .before .before .before .before .before .before .before .before .before .before .pre) 6 (c .before .before .before .before .match .keys3))
 
--- src/lib.rt:105:1
 same-length-4 : tie.Need-same-length-4
 same-length-4 c = search needs
 
--- src/lib.rt:105:1
 returns-4 : tie.Need-returns-4
 returns-4 c = c .get .ensures _ (c .before .before .before .before .before .before .before .before .before .pre .3) _ _ (comes (c .before .before .before .before .before .before .before .before .before .pre) 7 (c .before .before .match .keys4))
 
--- src/lib.rt:105:1
 same-length-5 : tie.Need-same-length-5
 same-length-5 c = search needs
 
--- src/lib.rt:105:1
 returns-5 : tie.Need-returns-5
 returns-5 c = c .before .before .first .ensures _ _ _ (comes (c .before .before .before .before .before .before .before .before .before .before .before .pre) 8 (c .before .before .before .before .match .keys5))
 
--- src/lib.rt:105:1
 same-length-6 : tie.Need-same-length-6
 same-length-6 c = search needs
 
--- src/lib.rt:105:1
 returns-6 : tie.Need-returns-6
 returns-6 c = c .before .before .block .ensures _ _ _ _ (comes (c .before .before .before .before .before .before .before .before .before .before .before .pre) 10 (c .before .before .before .before .match .keys6))
 
--- src/lib.rt:105:1
 returns-7 : tie.Need-returns-7
 returns-7 c = rw (c .at-node .ensures) (seq-lands _ _ _ _ _ _ _ (comes (c .before .before .before .before .before .before .before .before .pre) 11 (c .before .match .keys7)))
 
--- src/lib.rt:105:1
 returns-8 : tie.Need-returns-8
 returns-8 c = c .choice .ensures _ _ _ (comes (c .before .before .before .before .before .before .before .before .pre) 12 (c .before .match .keys8))
 
--- src/lib.rt:105:1
 same-length-7 : tie.Need-same-length-7
 same-length-7 c = search needs
 
--- src/lib.rt:105:1
 returns-9 : tie.Need-returns-9
 returns-9 c = c .before .before .test .ensures _ _ _ (comes (c .before .before .before .before .before .before .before .before .before .before .before .pre) 13 (c .before .before .before .before .match .keys9))
 
--- src/lib.rt:105:1
 returns-10 : tie.Need-returns-10
 returns-10 c = c .throw .ensures _ _ _ _ (comes (c .before .before .before .before .before .before .before .before .pre) 14 (c .before .match .keys10))
 
--- src/lib.rt:105:1
 returns-11 : tie.Need-returns-11
 returns-11 c = rw (c .at-value .ensures) (try-lands _ _ _ _ _ _ _ (comes (c .before .before .before .before .before .before .before .before .pre) 15 (c .before .match .keys11)))
 
--- src/lib.rt:105:1
 returns-12 : tie.Need-returns-12
 returns-12 c = c .second-of-pair .ensures _ _ _ refl _ _ (comes (c .before .before .before .before .before .before .before .before .before .pre) 20 (c .before .before .match .keys12))
 
--- src/lib.rt:105:1
 returns-13 : tie.Need-returns-13
 returns-13 c = c .second-of-pair2 .ensures _ _ _ refl _ _ (comes (c .before .before .before .before .before .before .before .before .before .pre) 21 (c .before .before .match .keys13))
 
--- src/lib.rt:105:1
 same-length-8 : tie.Need-same-length-8
 same-length-8 c = search needs
 
--- src/lib.rt:105:1
 returns-14 : tie.Need-returns-14
 returns-14 c = c .before .before .set .ensures _ (c .before .before .before .before .before .before .before .before .before .before .before .before .pre .3) _ _ (comes (c .before .before .before .before .before .before .before .before .before .before .before .before .pre) 24 (c .before .before .before .before .before .match .keys14)) refl
 
--- src/lib.rt:105:1
 returns-15 : tie.Need-returns-15
 returns-15 c = rw (c .at-node2 .ensures) (loop-lands _ _ _ _ _ _ _ (comes (c .before .before .before .before .before .before .before .before .pre) 29 (c .before .match .keys15)))
 
--- src/lib.rt:105:1
 returns-16 : tie.Need-returns-16
 returns-16 c = lands-none _ _ _ _ _ _ _ _ _ (c .none .ensures) (kept-refl _ _)
 

@@ -1,105 +1,79 @@
-use mathlib.Core.Path.{refl}
-use Rattle.room.specs.Unwind.{is-try, leave-steps, pass-steps}
-use Rattle.room.specs.RoomLaws.{fit-variable}
-use Rattle.leaps.specs.BackLaps.{few-nodes, good-tabled, unwound}
-use native.Mathlib.Omega.{arith}
-use borrow.Author.Needs.{needs}
+-- `leaps::unwind_leap` meets its contract.
 use Rattle.leaps.proofs.unwind_leap.Statement.{statement}
+use Rattle.leaps.specs.BackLaps.{few-nodes, good-tabled, unwound}
+use Rattle.room.specs.RoomLaws.{fit-variable}
+use Rattle.room.specs.Unwind.{is-try, leave-steps, pass-steps}
+use borrow.Author.Needs.{needs}
+use mathlib.Core.Path.{refl}
+use native.Mathlib.Omega.{arith}
 use Rattle.leaps.proofs.unwind_leap.Tie as tie
-use Rattle.leaps.proofs.unwind_leap.Reads as reads
-use Rattle.leaps.proofs.unwind_leap.Lts as lts
-use Rattle.leaps.proofs.at_thrown.Reads as at-thrown-reads
-use Rattle.leaps.proofs.backs.unwind_try.Reads as unwind-try-reads
 
--- src/lib.rt:155:23
 mul-at : tie.Need-mul-at
 mul-at c = search needs
 
--- src/lib.rt:155:14
 add-at : tie.Need-add-at
 add-at c = search needs
 
--- src/lib.rt:156:18
 add-p : tie.Need-add-p
 add-p c = search needs
 
--- src/lib.rt:156:13
 mul-p : tie.Need-mul-p
 mul-p c = search needs
 
--- src/lib.rt:156:13
 slice-read-p : tie.Need-slice-read-p
 slice-read-p c = search needs
 
--- src/lib.rt:157:11
 mul-match : tie.Need-mul-match
 mul-match c = search needs
 
--- src/lib.rt:157:11
 slice-read-match : tie.Need-slice-read-match
 slice-read-match c = search needs
 
--- src/lib.rt:159:26
 add-x : tie.Need-add-x
 add-x c = search needs
 
--- src/lib.rt:159:21
 mul-x : tie.Need-mul-x
 mul-x c = search needs
 
--- src/lib.rt:159:21
 slice-read-x : tie.Need-slice-read-x
 slice-read-x c = search needs
 
--- src/lib.rt:160:28
 add-room : tie.Need-add-room
 add-room c = search needs
 
--- src/lib.rt:160:23
 mul-room : tie.Need-mul-room
 mul-room c = search needs
 
--- src/lib.rt:160:23
 slice-read-room : tie.Need-slice-read-room
 slice-read-room c = search needs
 
--- src/lib.rt:160:13
 mul-room-2 : tie.Need-mul-room-2
 mul-room-2 c = let v = fit-variable (c .before .before .before .before .before .before .before .before .before .pre .1 .fit) (c .before .before .match .keys1) in omega (arith, v)
 
--- src/lib.rt:160:13
 slice-write-room : tie.Need-slice-write-room
 slice-write-room c = let v = fit-variable (c .before .before .before .before .before .before .before .before .before .pre .1 .fit) (c .before .before .match .keys1) in omega (arith, v, c .before .before .before .before .before .before .before .before .before .pre .1 .long)
 
--- src/lib.rt:161:13
 at-thrown-requires : tie.Need-at-thrown-requires
 at-thrown-requires c κs = search needs
 
--- src/lib.rt:163:15
 unwind-try-requires : tie.Need-unwind-try-requires
 unwind-try-requires c κs = let p = c .before .before .before .before .before .before .before .before .pre in let n = is-try _ (p .0 .nodes) _ _ _ _ _ _ (p .1) (p .2) (c .before .match .keys2) in (good-tabled _ _ (p .0), p .3, p .2 .words, n, few-nodes (p .0) _ (n .0), p .1 .here, p .1 .fit .long)
 
--- src/lib.rt:164:14
 at-thrown-requires-2 : tie.Need-at-thrown-requires-2
 at-thrown-requires-2 c κs = search needs
 
--- src/lib.rt:141:1
 same-length : tie.Need-same-length
 same-length c = search needs
 
--- src/lib.rt:141:1
 returns : tie.Need-returns
 returns c = let p = c .before .before .before .before .before .before .before .before .before .before .pre in rw (c .at-thrown .ensures) (unwound _ _ _ _ _ _ _ _ _ (leave-steps _ (p .0 .nodes) _ _ _ _ _ _ (p .1) (p .2) (c .before .before .before .match .keys1)))
 
--- src/lib.rt:141:1
 same-length-2 : tie.Need-same-length-2
 same-length-2 c = search needs
 
--- src/lib.rt:141:1
 returns-2 : tie.Need-returns-2
 returns-2 c = let p = c .before .before .before .before .before .before .before .before .before .before .before .pre in c .before .before .unwind-try .ensures _ _ (record { nodes = p .0 .nodes; inv = p .1; heap = p .2; tagged = c .before .before .before .before .match .keys2; placed = refl })
 
--- src/lib.rt:141:1
 returns-3 : tie.Need-returns-3
 returns-3 c = let p = c .before .before .before .before .before .before .before .before .pre in rw (c .at-thrown2 .ensures) (unwound _ _ _ _ _ _ _ _ _ (pass-steps _ (p .0 .nodes) _ _ _ _ _ _ (p .1) (p .2) (c .before .match .rest .0 .1) (c .before .match .rest .1)))
 

@@ -1,63 +1,47 @@
-use native.Mathlib.Numerals.{add-one}
-use Rattle.room.specs.Nodes.{assign-local}
+-- `leaps::backs::assign` meets its contract.
 use Rattle.laws.specs.Tags.{tag-small}
-use Rattle.leaps.specs.BackLaps.{assign-lands, lands-none}
-use Rattle.room.specs.RoomLaws.{kept-refl}
-use native.Mathlib.Omega.{arith}
-use borrow.Author.Needs.{needs}
 use Rattle.leaps.proofs.backs.assign.Statement.{statement}
+use Rattle.leaps.specs.BackLaps.{assign-lands, lands-none}
+use Rattle.room.specs.Nodes.{assign-local}
+use Rattle.room.specs.RoomLaws.{kept-refl}
+use borrow.Author.Needs.{needs}
+use native.Mathlib.Numerals.{add-one}
+use native.Mathlib.Omega.{arith}
 use Rattle.leaps.proofs.backs.assign.Tie as tie
-use Rattle.leaps.proofs.backs.assign.Reads as reads
-use Rattle.leaps.proofs.backs.assign.Lts as lts
-use Rattle.leaps.proofs.at_value.Reads as at-value-reads
-use Rattle.leaps.proofs.backs.word_at.Reads as word-at-reads
-use Rattle.leaps.proofs.none.Reads as none-reads
 
--- src/backs.rt:109:13
 word-at-requires : tie.Need-word-at-requires
 word-at-requires c κs = search needs
 
--- src/backs.rt:109:13
 cast-x : tie.Need-cast-x
 cast-x c = search needs
 
--- src/backs.rt:110:8
 mul-if1 : tie.Need-mul-if1
 mul-if1 c = search needs
 
--- src/backs.rt:110:8
 slice-read-if1 : tie.Need-slice-read-if1
 slice-read-if1 c = let p = c .before .before .before .before .pre in omega (arith, p .2, c .before .word-at .ensures, assign-local _ _ (p .0 .holds _ (p .1 .0)) (p .1 .1))
 
--- src/backs.rt:111:9
 none-requires : tie.Need-none-requires
 none-requires c κs = search needs
 
--- src/backs.rt:111:9
 returns : tie.Need-returns
 returns c = λ D hs k. lands-none _ D _ hs _ _ _ _ _ (c .none .ensures) (kept-refl _ _)
 
--- src/backs.rt:113:15
 add-room : tie.Need-add-room
 add-room c = omega (arith, tag-small _ (c .before .before .before .before .before .pre .3))
 
--- src/backs.rt:113:5
 mul-room : tie.Need-mul-room
 mul-room c = search needs
 
--- src/backs.rt:113:5
 slice-write-room : tie.Need-slice-write-room
 slice-write-room c = let p = c .before .before .before .before .before .pre in omega (arith, p .2, c .before .before .word-at .ensures, assign-local _ _ (p .0 .holds _ (p .1 .0)) (p .1 .1))
 
--- src/backs.rt:114:5
 at-value-requires : tie.Need-at-value-requires
 at-value-requires c κs = search needs
 
--- src/backs.rt:105:1
 same-length : tie.Need-same-length
 same-length c = search needs
 
--- src/backs.rt:105:1
 returns-2 : tie.Need-returns-2
 returns-2 c = λ D hs k. rw (c .at-value .ensures, add-one) (assign-lands _ D hs _ _ _ _ k _ (c .before .before .before .word-at .ensures) (c .before .if1 .left))
 

@@ -1,60 +1,45 @@
+-- `leaps::backs::block` meets its contract.
+use Rattle.leaps.proofs.backs.block.Statement.{statement}
 use Rattle.leaps.specs.BackLaps.{block-lands}
 use borrow.Author.Needs.{needs}
-use Rattle.leaps.proofs.backs.block.Statement.{statement}
 use Rattle.leaps.proofs.backs.block.Tie as tie
-use Rattle.leaps.proofs.backs.block.Reads as reads
-use Rattle.leaps.proofs.backs.block.Lts as lts
-use Rattle.leaps.proofs.at_value.Reads as at-value-reads
 
--- src/backs.rt:130:23
 mul-at : tie.Need-mul-at
 mul-at c = search needs
 
--- src/backs.rt:130:14
 add-at : tie.Need-add-at
 add-at c = search needs
 
--- src/backs.rt:131:18
 add-x : tie.Need-add-x
 add-x c = search needs
 
--- src/backs.rt:131:13
 mul-x : tie.Need-mul-x
 mul-x c = search needs
 
--- src/backs.rt:131:13
 slice-read-x : tie.Need-slice-read-x
 slice-read-x c = search needs
 
--- src/backs.rt:132:20
 add-room : tie.Need-add-room
 add-room c = search needs
 
--- src/backs.rt:132:15
 mul-room : tie.Need-mul-room
 mul-room c = search needs
 
--- src/backs.rt:132:15
 slice-read-room : tie.Need-slice-read-room
 slice-read-room c = search needs
 
--- src/backs.rt:132:5
 mul-room-2 : tie.Need-mul-room-2
 mul-room-2 c = search needs
 
--- src/backs.rt:132:5
 slice-write-room : tie.Need-slice-write-room
 slice-write-room c = search needs
 
--- src/backs.rt:133:5
 at-value-requires : tie.Need-at-value-requires
 at-value-requires c κs = search needs
 
--- src/backs.rt:126:1
 same-length : tie.Need-same-length
 same-length c = search needs
 
--- src/backs.rt:126:1
 returns : tie.Need-returns
 returns c = λ ws p D hs k. rw (c .at-value .ensures) (block-lands ws D hs _ p _ _ k)
 

@@ -1,50 +1,36 @@
-use Rattle.objects.specs.SpotLaws.{spot-null}
-use Rattle.leaps.specs.BackLaps.{get-field, get-lands, lands-none, null-lands}
-use Rattle.room.specs.RoomLaws.{kept-refl}
-use native.Mathlib.Omega.{arith}
-use borrow.Author.Needs.{needs}
+-- `leaps::backs::get` meets its contract.
 use Rattle.leaps.proofs.backs.get.Statement.{statement}
+use Rattle.leaps.specs.BackLaps.{get-field, get-lands, lands-none, null-lands}
+use Rattle.objects.specs.SpotLaws.{spot-null}
+use Rattle.room.specs.RoomLaws.{kept-refl}
+use borrow.Author.Needs.{needs}
+use native.Mathlib.Omega.{arith}
 use Rattle.leaps.proofs.backs.get.Tie as tie
-use Rattle.leaps.proofs.backs.get.Reads as reads
-use Rattle.leaps.proofs.backs.get.Lts as lts
-use Rattle.leaps.proofs.at_thrown.Reads as at-thrown-reads
-use Rattle.leaps.proofs.at_value.Reads as at-value-reads
-use Rattle.leaps.proofs.none.Reads as none-reads
-use Rattle.memo.proofs.spot.Reads as spot-reads
 
--- src/backs.rt:123:9
 at-thrown-requires : tie.Need-at-thrown-requires
 at-thrown-requires c κs = search needs
 
--- src/backs.rt:123:9
 returns : tie.Need-returns
 returns c = λ ws m D room k. rw (c .at-thrown .ensures) (null-lands ws D _ room _ _ _ k 0 (spot-null _ _ _ _ _ (c .before .before .before .before .pre .1) (omega (arith, c .before .if1 .taken))))
 
--- src/backs.rt:125:9
 spot-requires : tie.Need-spot-requires
 spot-requires c κs = let p = c .before .before .before .pre in (p .2 .table .size, p .0, p .1)
 
--- src/backs.rt:127:9
 none-requires : tie.Need-none-requires
 none-requires c κs = search needs
 
--- src/backs.rt:127:9
 returns-2 : tie.Need-returns-2
 returns-2 c = λ ws m D room k. lands-none ws D _ _ room _ _ room _ (c .none .ensures) (kept-refl room _)
 
--- src/backs.rt:129:21
 mul-at-value : tie.Need-mul-at-value
 mul-at-value c = let p = c .before .before .before .before .before .pre in omega (arith, (c .before .spot .ensures _ (p .2 .table) (p .2 .words) (p .2 .field) (c .if2 .left)) .inside)
 
--- src/backs.rt:129:21
 shared-slice-read-at-value : tie.Need-shared-slice-read-at-value
 shared-slice-read-at-value c = let p = c .before .before .before .before .before .before .pre in (c .before .before .spot .ensures _ (p .2 .table) (p .2 .words) (p .2 .field) (c .before .if2 .left)) .inside
 
--- src/backs.rt:129:5
 at-value-requires : tie.Need-at-value-requires
 at-value-requires c κs = search needs
 
--- src/backs.rt:118:1
 returns-3 : tie.Need-returns-3
 returns-3 c = λ ws m D room k. rw (c .at-value .ensures) (get-lands ws D _ room _ _ _ k _ (c .before .before .before .spot .ensures ws m (k .heap .words) (get-field ws D _ room _ _ _ k) (c .before .before .if2 .left)))
 

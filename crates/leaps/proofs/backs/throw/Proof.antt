@@ -1,28 +1,20 @@
-use Rattle.redexes.specs.RedexLaws.{throw-address}
-use Rattle.leaps.specs.BackLaps.{lands-none, throw-lands}
-use Rattle.room.specs.RoomLaws.{kept-refl}
-use native.Mathlib.Omega.{arith}
-use borrow.Author.Needs.{needs}
+-- `leaps::backs::throw` meets its contract.
 use Rattle.leaps.proofs.backs.throw.Statement.{statement}
+use Rattle.leaps.specs.BackLaps.{lands-none, throw-lands}
+use Rattle.redexes.specs.RedexLaws.{throw-address}
+use Rattle.room.specs.RoomLaws.{kept-refl}
+use borrow.Author.Needs.{needs}
 use Rattle.leaps.proofs.backs.throw.Tie as tie
-use Rattle.leaps.proofs.backs.throw.Reads as reads
-use Rattle.leaps.proofs.backs.throw.Lts as lts
-use Rattle.leaps.proofs.at_thrown.Reads as at-thrown-reads
-use Rattle.leaps.proofs.none.Reads as none-reads
 
--- src/backs.rt:171:9
 at-thrown-requires : tie.Need-at-thrown-requires
 at-thrown-requires c κs = search needs
 
--- src/backs.rt:171:9
 returns : tie.Need-returns
 returns c = λ ws room D hs k. rw (c .at-thrown .ensures) (throw-lands ws D hs room _ _ _ k _ (throw-address _ (c .before .before .pre) (c .before .if1 .taken)))
 
--- src/backs.rt:173:5
 none-requires : tie.Need-none-requires
 none-requires c κs = search needs
 
--- src/backs.rt:166:1
 returns-2 : tie.Need-returns-2
 returns-2 c = λ ws room D hs k. lands-none ws D _ hs room _ _ room _ (c .none .ensures) (kept-refl room _)
 

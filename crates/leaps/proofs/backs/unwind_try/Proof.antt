@@ -1,92 +1,67 @@
+-- `leaps::backs::unwind_try` meets its contract.
 use Prim.Native.Nat.{_*_, _+_, _^_}
-use native.Mathlib.Numerals.{add-one}
 use Rattle.image.specs.Nodes.{kindOf, operands}
+use Rattle.leaps.proofs.backs.unwind_try.Statement.{statement}
+use Rattle.leaps.specs.BackLaps.{catch-lands, inner, lands-none, pass-lands}
 use Rattle.room.specs.Nodes.{try-local}
 use Rattle.room.specs.RoomLaws.{kept-refl}
-use Rattle.leaps.specs.BackLaps.{catch-lands, inner, lands-none, pass-lands}
-use native.Mathlib.Omega.{arith}
 use borrow.Author.Needs.{needs}
-use Rattle.leaps.proofs.backs.unwind_try.Statement.{statement}
+use native.Mathlib.Numerals.{add-one}
+use native.Mathlib.Omega.{arith}
 use Rattle.leaps.proofs.backs.unwind_try.Tie as tie
-use Rattle.leaps.proofs.backs.unwind_try.Reads as reads
-use Rattle.leaps.proofs.backs.unwind_try.Lts as lts
-use Rattle.enter.proofs.push_block.Reads as push-block-reads
-use Rattle.leaps.proofs.at_node.Reads as at-node-reads
-use Rattle.leaps.proofs.at_thrown.Reads as at-thrown-reads
-use Rattle.leaps.proofs.backs.word_at.Reads as word-at-reads
-use Rattle.leaps.proofs.none.Reads as none-reads
-use Rattle.memo.proofs.caught.Reads as caught-reads
 
--- src/backs.rt:215:11
 caught-requires : tie.Need-caught-requires
 caught-requires c κs = search needs
 
--- src/backs.rt:216:14
 at-thrown-requires : tie.Need-at-thrown-requires
 at-thrown-requires c κs = search needs
 
--- src/backs.rt:218:21
 word-at-requires : tie.Need-word-at-requires
 word-at-requires c κs = search needs
 
--- src/backs.rt:218:21
 cast-c : tie.Need-cast-c
 cast-c c = search needs
 
--- src/backs.rt:219:21
 word-at-requires-2 : tie.Need-word-at-requires-2
 word-at-requires-2 c κs = search needs
 
--- src/backs.rt:219:21
 cast-x : tie.Need-cast-x
 cast-x c = search needs
 
--- src/backs.rt:220:46
 add-push-block : tie.Need-add-push-block
 add-push-block c = search needs
 
--- src/backs.rt:220:57
 add-push-block-2 : tie.Need-add-push-block-2
 add-push-block-2 c = search needs
 
--- src/backs.rt:220:57
 add-push-block-3 : tie.Need-add-push-block-3
 add-push-block-3 c = search needs
 
--- src/backs.rt:220:13
 push-block-requires : tie.Need-push-block-requires
 push-block-requires c κs = let p = c .before .before .before .before .before .before .before .before .before .pre in (p .6, rw (c .before .word-at2 .ensures) (try-local _ _ (p .0 .holds _ (p .3 .0)) (p .3 .1)))
 
--- src/backs.rt:221:28
 sub-at-node : tie.Need-sub-at-node
 unfolding kindOf operands
 sub-at-node c = let p = c .before .before .before .before .before .before .before .before .before .before .before .before .pre in inner _ _ _ 15 (p .0) (p .3) (omega arith)
 
--- src/backs.rt:221:35
 add-at-node : tie.Need-add-at-node
 add-at-node c = search needs
 
--- src/backs.rt:221:13
 at-node-requires : tie.Need-at-node-requires
 at-node-requires c κs = search needs
 
--- src/backs.rt:223:14
 none-requires : tie.Need-none-requires
 none-requires c κs = search needs
 
--- src/backs.rt:202:1
 returns : tie.Need-returns
 returns c = let p = c .before .before .before .before .before .before .before .pre in λ D q k. rw (c .at-thrown .ensures) (pass-lands _ D _ _ _ _ q _ k (c .before .before .caught .ensures _ (p .1) (p .2) (p .3) .0 (c .before .match .keys1)))
 
--- src/backs.rt:202:1
 same-length : tie.Need-same-length
 same-length c = search needs
 
--- src/backs.rt:202:1
 returns-2 : tie.Need-returns-2
 returns-2 c = let p = c .before .before .before .before .before .before .before .before .before .before .before .before .before .pre in λ D q k. rw (c .at-node .ensures, c .before .before .before .push-block .ensures, c .before .before .before .before .before .word-at2 .ensures, c .before .before .before .before .before .before .word-at .ensures, add-one (c .before .before .before .before .before .before .before .before .before .before .before .before .before .args .i), add-one (4 * 2 ^ 32 + c .before .before .before .before .before .before .before .before .before .before .before .before .before .args .a)) (catch-lands _ D _ _ _ _ q _ k (c .before .before .before .before .before .before .before .before .caught .ensures _ (p .1) (p .2) (p .3) .1 (c .before .before .before .before .before .before .before .match .keys2)))
 
--- src/backs.rt:202:1
 returns-3 : tie.Need-returns-3
 returns-3 c = λ D q k. lands-none _ D _ _ _ _ _ _ _ (c .none .ensures) (kept-refl _ _)
 
