@@ -149,7 +149,7 @@ pub fn unwind_leap(
     a: usize,
     q: usize,
 ) -> Leap
-    requires { ⌜ Good (now ws) lay × Inv (now ws) depth (now room) (suc i) (Thrown a q) × HeapOk (now ws) (now heap) (getD (now room) searchWord 0) × Memo (now ws) (now memo) × (suc i ≤ depth) ⌝ }
+    requires { ⌜ Good (now ws) lay × Inv (now ws) depth (now room) (suc i) (Thrown a q) × HeapOk (now ws) (now heap) (getD (now room) searchWord 0) × Memo (now ws) (now memo) ⌝ }
     ensures { λ r. ⌜ Lands (now (ws .entry)) depth i (now (heap .entry)) (now (room .entry)) (suc i) (Thrown a q) (now (heap .entry)) (now (room .exit)) r ⌝ }
 {
     let at = FRAMES + FRAME_WORDS * i;

@@ -1,4 +1,6 @@
 -- The run as a loop of turns.
 pub mod Finished
+pub mod Reaches
 -- Laws.
 pub mod Runs
+pub mod ReachLaws
