@@ -11,6 +11,10 @@ ghost use Rattle.room.specs.Turn.{HeapOk, Inv};
 ghost use Rattle.memo.specs.Memo.{Memo};
 ghost use Rattle.leaps.specs.Lands.{Lands};
 use image::Layout;
+use room::FRAME_WORDS;
+use room::FRAMES;
+
+mod backs;
 
 // What a leap comes to. The word is a node, a value's word, or an address, and with an address the place is told.
 pub struct Leap {
@@ -39,6 +43,42 @@ fn none() -> Leap
         place: 0,
         level: 0,
         steps: 0,
+    }
+}
+
+fn at_node(n: usize, level: usize, steps: u64) -> Leap
+    ensures { λ r. ⌜ r ≡ record { how = 1; word = n; place = 0; level = level; steps = steps } ⌝ }
+{
+    Leap {
+        how: NODE,
+        word: n as u64,
+        place: 0,
+        level: level,
+        steps: steps,
+    }
+}
+
+fn at_value(w: u64, level: usize, steps: u64) -> Leap
+    ensures { λ r. ⌜ r ≡ record { how = 2; word = w; place = 0; level = level; steps = steps } ⌝ }
+{
+    Leap {
+        how: VALUE,
+        word: w,
+        place: 0,
+        level: level,
+        steps: steps,
+    }
+}
+
+fn at_thrown(a: usize, place: usize, level: usize, steps: u64) -> Leap
+    ensures { λ r. ⌜ r ≡ record { how = 3; word = a; place = place; level = level; steps = steps } ⌝ }
+{
+    Leap {
+        how: THROWN,
+        word: a as u64,
+        place: place,
+        level: level,
+        steps: steps,
     }
 }
 
@@ -75,7 +115,26 @@ pub fn back_leap(
     requires { ⌜ Good (now ws) lay × Inv (now ws) depth (now room) (suc i) (Word w) × HeapOk (now ws) (now heap) (getD (now room) searchWord 0) × Memo (now ws) (now memo) × (suc i ≤ depth) ⌝ }
     ensures { λ r. ⌜ Lands (now (ws .entry)) depth i (now (heap .entry)) (now (room .entry)) (suc i) (Word w) (now (heap .exit)) (now (room .exit)) r ⌝ }
 {
-    none()
+    let at = FRAMES + FRAME_WORDS * i;
+    let p = room[at + 1] as usize;
+    match room[at] {
+        4 => backs::first_of_pair(ws, lay.nodes, room, 4, p, i, w),
+        5 => backs::first_of_pair(ws, lay.nodes, room, 5, p, i, w),
+        6 => backs::assign(ws, lay.nodes, room, p, i, w),
+        7 => backs::get(heap, memo, p, i, w),
+        8 => backs::first(room, 8, p, i, w),
+        10 => backs::block(room, i, w),
+        11 => at_node(p - 1, i, 1),
+        12 => backs::choice(ws, lay.nodes, p, i, w),
+        13 => backs::test(room, p, i, w),
+        14 => backs::throw(p, i, w),
+        15 => at_value(w, i, 1),
+        20 => backs::second_of_pair(4, i, room[at + 2], w),
+        21 => backs::second_of_pair(5, i, room[at + 2], w),
+        24 => backs::set(heap, memo, p, i, room[at + 2], w),
+        29 => at_node(p, i, 1),
+        _ => none(),
+    }
 }
 
 // An address that is thrown comes to frame i.
@@ -93,5 +152,15 @@ pub fn unwind_leap(
     requires { ⌜ Good (now ws) lay × Inv (now ws) depth (now room) (suc i) (Thrown a q) × HeapOk (now ws) (now heap) (getD (now room) searchWord 0) × Memo (now ws) (now memo) ⌝ }
     ensures { λ r. ⌜ Lands (now (ws .entry)) depth i (now (heap .entry)) (now (room .entry)) (suc i) (Thrown a q) (now (heap .entry)) (now (room .exit)) r ⌝ }
 {
-    none()
+    let at = FRAMES + FRAME_WORDS * i;
+    let p = room[at + 1] as usize;
+    match room[at] {
+        10 => {
+            let x = room[at + 2] as usize;
+            room[x] = room[at + 4];
+            at_thrown(a, p, i, 1)
+        }
+        15 => backs::unwind_try(ws, lay.nodes, heap, room, memo, i, a, p),
+        _ => at_thrown(a, p, i, 1),
+    }
 }

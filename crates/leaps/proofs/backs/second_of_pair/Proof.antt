@@ -1,0 +1,32 @@
+-- `leaps::backs::second_of_pair` meets its contract.
+use Prim.Native.Nat.{_-_, suc}
+use Rattle.leaps.proofs.backs.second_of_pair.Statement.{statement}
+use Rattle.leaps.specs.BackLaps.{lands-none, second-lands}
+use Rattle.room.specs.RoomLaws.{kept-refl}
+use borrow.Author.Needs.{needs}
+use mathlib.Core.Path.{_≡_}
+use native.Mathlib.Omega.{arith}
+use Rattle.leaps.proofs.backs.second_of_pair.Tie as tie
+
+pair-requires : tie.Need-pair-requires
+pair-requires c κs = search needs
+
+none-requires : tie.Need-none-requires
+none-requires c κs = search needs
+
+returns : tie.Need-returns
+returns c = λ ws room p q D hs k. lands-none ws D _ hs room _ _ room _ (c .none .ensures) (kept-refl room _)
+
+sub-at-value : tie.Need-sub-at-value
+sub-at-value c = search needs
+
+at-value-requires : tie.Need-at-value-requires
+at-value-requires c κs = search needs
+
+returns-2 : tie.Need-returns-2
+returns-2 c = λ ws room p q D hs k. let z : c .before .before .pair .result ≡ suc (c .before .before .pair .result - 1) = omega (arith, c .before .if1 .left) in rw (c .at-value .ensures) (second-lands ws D hs room p _ _ _ _ (c .before .before .before .pre .0) k (rw q (c .before .before .pair .ensures _ z)))
+
+pub second-of-pair-spec : {M : Type 1} → statement M
+second-of-pair-spec =
+    tie.close
+    (tie.spec pair-requires none-requires returns sub-at-value at-value-requires returns-2)

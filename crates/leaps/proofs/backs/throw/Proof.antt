@@ -1,0 +1,22 @@
+-- `leaps::backs::throw` meets its contract.
+use Rattle.leaps.proofs.backs.throw.Statement.{statement}
+use Rattle.leaps.specs.BackLaps.{lands-none, throw-lands}
+use Rattle.redexes.specs.RedexLaws.{throw-address}
+use Rattle.room.specs.RoomLaws.{kept-refl}
+use borrow.Author.Needs.{needs}
+use Rattle.leaps.proofs.backs.throw.Tie as tie
+
+at-thrown-requires : tie.Need-at-thrown-requires
+at-thrown-requires c κs = search needs
+
+returns : tie.Need-returns
+returns c = λ ws room D hs k. rw (c .at-thrown .ensures) (throw-lands ws D hs room _ _ _ k _ (throw-address _ (c .before .before .pre) (c .before .if1 .taken)))
+
+none-requires : tie.Need-none-requires
+none-requires c κs = search needs
+
+returns-2 : tie.Need-returns-2
+returns-2 c = λ ws room D hs k. lands-none ws D _ hs room _ _ room _ (c .none .ensures) (kept-refl room _)
+
+pub throw-spec : {M : Type 1} → statement M
+throw-spec = tie.close (tie.spec at-thrown-requires returns none-requires returns-2)

@@ -1,0 +1,358 @@
+-- Laws of a leap back to a frame, one for each way on.
+use mathlib.Core.Path.{_≡_, refl, sym, _∙_, ap}
+use mathlib.Core.Bool.{Bool, true, false, _&&_, _||_}
+use mathlib.Core.List.{List}
+use mathlib.Core.Logic.{inl, inr}
+use Prim.Native.Nat.{ℕ, zero, suc, _+_, _*_, _-_, _/_, _%_, _^_, _≤_, _<_}
+use native.Mathlib.Omega.{arith}
+use lib.Dec.{eqb}
+use lib.ListN.{length, getD, set, length-set}
+use lib.Seq.{getD-set-same, getD-set-other}
+use borrow.Author.Tests.{ne-eqb}
+use Rattle.words.specs.declared.Value.{Value}
+use Rattle.image.specs.Numbers.{mostNodes}
+use Rattle.image.specs.Trailer.{nodeCount}
+use Rattle.image.specs.Nodes.{nodeWord, kindOf, operands, nodeHolds}
+use Rattle.image.specs.Layout.{Good}
+use Rattle.image.specs.declared.Layout.{Layout}
+use Rattle.rules.specs.Trees.{operand}
+use Rattle.rules.specs.Step.{sameValue, eqRedex}
+use Rattle.laws.specs.Values.{valueAt, IsValue}
+use Rattle.laws.specs.Trees.{operand-below}
+use Rattle.laws.specs.Tags.{address-word}
+use Rattle.objects.specs.Spots.{FieldSpot, FieldRaises}
+use Rattle.redexes.specs.declared.Choice.the-variants.{Then, Otherwise}
+use Rattle.redexes.specs.declared.Catch.the-variants.{Catches, Passes}
+use Rattle.redexes.specs.Outcomes.{redexOf, Chooses, ThrowsAt, Tries}
+use Rattle.redexes.specs.RedexLaws.{add-sum, add-word}
+use Rattle.memo.specs.Memo.{IsField, Memo}
+use Rattle.quick.specs.Known.{Tabled, Stored, Eval}
+use Rattle.room.specs.declared.Focus.{Focus}
+use Rattle.room.specs.declared.Focus.the-variants.{Node, Value as Word, Thrown}
+use Rattle.room.specs.Room.{searchWord, frameAt, first, second, shapeOf, word, tag, IsNode, Fit}
+use Rattle.room.specs.RoomLaws.{Kept, kept-refl, kept-set, pushBlock}
+use Rattle.room.specs.Turn.{HeapOk, Inv, Moves, Steps}
+use Rattle.room.specs.Armed.{armed, armedSeq}
+use Rattle.room.specs.Back as back
+use Rattle.room.specs.Unwind.{pass-try, catch-steps}
+use Rattle.room.specs.Leads.{Leaps}
+use Rattle.room.specs.LeadsLaws.{leads-on, leaps-on, leaps-move, leaps-step, leaps-kept}
+use Rattle.leaps.specs.declared.Leap.{Leap}
+use Rattle.leaps.specs.Lands.{Lands}
+use Rattle.leaps.specs.Backs.{Comes, Paired, Begun, Pair, Fielded, Tried}
+
+-- an accepted image has its nodes where the layout says
+pub good-tabled : (ws : List ℕ) (l : Layout) → Good ws l → Tabled ws (l .nodes)
+good-tabled ws l g =
+    record { nodes-at = g .lay .nodes-at; within = omega (arith, g .lay .whole, g .lay .node-count); holds = g .nodes }
+
+pub few-nodes : {ws : List ℕ} {l : Layout} → Good ws l → (p : ℕ) → p < nodeCount ws → p < mostNodes
+few-nodes g p h = omega (arith, g .lay .node-count, g .small .nodes)
+
+pub fit-stored : (ws room : List ℕ) (l : ℕ) → Fit ws room l → Stored ws room
+fit-stored ws room l f = record { long = omega (arith, f .long); held-ok = f .held-ok }
+
+-- a node of a kind that has operands is not the first one
+pub inner : (ws : List ℕ) (nodes p k : ℕ) → Tabled ws nodes → IsNode ws p k → 0 < operands (kindOf k) (nodeWord ws p 3) → 1 ≤ p
+inner ws nodes p k f n l = omega (arith, operand-below ws p (f .holds p (n .0)) 0 (rw (n .1) l))
+
+pub begun-small : (t : ℕ) → Begun t → t ≤ 8
+begun-small t (inl (inl e)) = omega arith
+begun-small t (inl (inr e)) = omega arith
+begun-small t (inr e) = omega arith
+
+-- an Add and an Eq of two values
+module _ (t v w : ℕ) where
+  pub pair-sum : IsValue v → IsValue w → (eqb (v / 2 ^ 32) 3 && eqb (w / 2 ^ 32) 3) ≡ true → (t ≡ 5 → ⊥)
+      → Pair t v w (3 * 2 ^ 32 + (v + w) % 2 ^ 32)
+  unfolding redexOf
+  pair-sum kv kw e d =
+      record { is-value = add-word v w kv kw; sum = λ z h. sym (add-sum v w kv kw e h); same = λ z. absurd (d z) }
+
+  pub pair-same : (u : ℕ) → valueAt u ≡ Value.Bool (sameValue (valueAt v) (valueAt w)) → IsValue u → t ≡ 5 → Pair t v w u
+  unfolding eqRedex
+  pair-same u e k d = record { is-value = k; sum = λ z. absurd (omega arith); same = λ z h. rw e }
+
+-- what a leap tells
+module _ (ws : List ℕ) (D top : ℕ) (hs room : List ℕ) (l : ℕ) (f : Focus) where
+  pub lands-none : (room' : List ℕ) (r : Leap) → (r .how ≡ 0) × (r .steps ≡ 0) → Kept room room' l
+      → Lands ws D top hs room l f hs room' r
+  lands-none room' r e k = record { few = rw (e .1) (omega arith); landing = rw (e .0) (k, refl) }
+
+  module _ (hs' room' : List ℕ) (k l' : ℕ) (few : k ≤ 63) where
+    pub lands-node : (n : ℕ) → Leaps ws D k hs room l f hs' room' l' (Node n)
+        → Lands ws D top hs room l f hs' room' (record { how = 1; word = n; place = 0; level = l'; steps = k })
+    lands-node n a = record { few = few; landing = a }
+
+    pub lands-value : (w : ℕ) → Leaps ws D k hs room l f hs' room' l' (Word w) → l' ≤ top
+        → Lands ws D top hs room l f hs' room' (record { how = 2; word = w; place = 0; level = l'; steps = k })
+    lands-value w a h = record { few = few; landing = (a, h) }
+
+    pub lands-thrown : (a p : ℕ) → Leaps ws D k hs room l f hs' room' l' (Thrown a p)
+        → Lands ws D top hs room l f hs' room' (record { how = 3; word = a; place = p; level = l'; steps = k })
+    lands-thrown a p b = record { few = few; landing = b }
+
+-- The value of w comes back to frame i.
+module _ (ws : List ℕ) (D : ℕ) (hs room : List ℕ) (p i w : ℕ) where
+  -- the node of a frame
+  pub first-node : (t : ℕ) → shapeOf t ≡ first → Comes ws D hs room t p i w → IsNode ws p t
+  first-node t e k = rw (k .placed) (back.is-first ws (k .nodes) D hs room i w (k .inv) t e (k .tagged))
+
+  pub second-node : (t : ℕ) → shapeOf t ≡ second → Comes ws D hs room t p i w → IsNode ws p (t - 16) × IsValue (word ws room i 2)
+  second-node t e k = rw (k .placed) (back.is-second ws (k .nodes) D hs room i w (k .inv) t e (k .tagged))
+
+  pub test-node : Comes ws D hs room 13 p i w → IsNode ws p 13
+  unfolding shapeOf
+  test-node k = rw (k .placed) (back.is-while ws (k .nodes) D hs room i w (k .inv) 13 (inl refl) (k .tagged))
+
+  -- a leap of one step that leaves the frame, to a value
+  step-value : (hs' room' : List ℕ) (u : ℕ) → Steps ws D hs room (suc i) (Word w) hs' room' i (Word u)
+      → Lands ws D i hs room (suc i) (Word w) hs' room' (record { how = 2; word = u; place = 0; level = i; steps = 1 })
+  step-value hs' room' u s =
+      lands-value ws D i hs room (suc i) (Word w) hs' room' 1 i (omega arith) u (leaps-step ws D s) (omega arith)
+
+  step-node : (room' : List ℕ) (l n : ℕ) → Steps ws D hs room (suc i) (Word w) hs room' l (Node n)
+      → Lands ws D i hs room (suc i) (Word w) hs room' (record { how = 1; word = n; place = 0; level = l; steps = 1 })
+  step-node room' l n s =
+      lands-node ws D i hs room (suc i) (Word w) hs room' 1 l (omega arith) n (leaps-step ws D s)
+
+  step-thrown : (a q : ℕ) → Steps ws D hs room (suc i) (Word w) hs room i (Thrown a q)
+      → Lands ws D i hs room (suc i) (Word w) hs room (record { how = 3; word = a; place = q; level = i; steps = 1 })
+  step-thrown a q s =
+      lands-thrown ws D i hs room (suc i) (Word w) hs room 1 i (omega arith) a q (leaps-step ws D s)
+
+  pub seq-lands : Comes ws D hs room 11 p i w
+      → Lands ws D i hs room (suc i) (Word w) hs room (record { how = 1; word = p - 1; place = 0; level = i; steps = 1 })
+  unfolding operand
+  seq-lands k =
+      rw (k .placed) (step-node room i (word ws room i 1 - 1) (back.seq-steps ws (k .nodes) D hs room i w (k .inv) (k .heap) (k .tagged)))
+
+  pub loop-lands : Comes ws D hs room 29 p i w
+      → Lands ws D i hs room (suc i) (Word w) hs room (record { how = 1; word = p; place = 0; level = i; steps = 1 })
+  loop-lands k =
+      rw (k .placed) (step-node room i (word ws room i 1) (back.loop-steps ws (k .nodes) D hs room i w (k .inv) (k .heap) (k .tagged)))
+
+  pub try-lands : Comes ws D hs room 15 p i w
+      → Lands ws D i hs room (suc i) (Word w) hs room (record { how = 2; word = w; place = 0; level = i; steps = 1 })
+  try-lands k = step-value hs room w (back.try-steps ws (k .nodes) D hs room i w (k .inv) (k .heap) (k .tagged))
+
+  pub block-lands : Comes ws D hs room 10 p i w
+      → Lands ws D i hs room (suc i) (Word w) hs (set room (word ws room i 2) (word ws room i 4))
+      (record { how = 2; word = w; place = 0; level = i; steps = 1 })
+  block-lands k = step-value hs _ w (back.block-steps ws (k .nodes) D hs room i w (k .inv) (k .heap) (k .tagged))
+
+  -- the arms of an If
+  module _ (k : Comes ws D hs room 12 p i w) where
+    pub then-lands : Chooses w Then
+        → Lands ws D i hs room (suc i) (Word w) hs room (record { how = 1; word = operand ws p 1; place = 0; level = i; steps = 1 })
+    then-lands e =
+        rw (k .placed)
+        (step-node room i _ (back.then-steps ws (k .nodes) D hs room i w (k .inv) (k .heap) (k .tagged) (e _ _ _ _ _)))
+
+    pub else-lands : Chooses w Otherwise
+        → Lands ws D i hs room (suc i) (Word w) hs room (record { how = 1; word = p - 1; place = 0; level = i; steps = 1 })
+    unfolding operand
+    else-lands e =
+        rw (k .placed)
+        (step-node room i _ (back.else-steps ws (k .nodes) D hs room i w (k .inv) (k .heap) (k .tagged) (e _ _ _ _ _)))
+
+  -- and of a loop's If
+  module _ (k : Comes ws D hs room 13 p i w) where
+    pub again-lands : Chooses w Then
+        → Lands ws D i hs room (suc i) (Word w) hs (set room (frameAt i) 29)
+        (record { how = 1; word = p - 1; place = 0; level = suc i; steps = 1 })
+    unfolding operand
+    again-lands e =
+        rw (k .placed)
+        (step-node _ (suc i) _ (back.again-steps ws (k .nodes) D hs room i w (k .inv) (k .heap) (k .tagged) (e _ _ _ _ _)))
+
+    pub over-lands : Chooses w Otherwise
+        → Lands ws D i hs room (suc i) (Word w) hs room (record { how = 2; word = 0; place = 0; level = i; steps = 1 })
+    over-lands e = step-value hs room 0 (back.over-steps ws (k .nodes) D hs room i w (k .inv) (k .heap) (k .tagged) (e _ _ _ _ _))
+
+  -- an address comes to a Throw
+  pub throw-lands : Comes ws D hs room 14 p i w → (a : ℕ) → ThrowsAt w a
+      → Lands ws D i hs room (suc i) (Word w) hs room (record { how = 3; word = a; place = p; level = i; steps = 0 })
+  throw-lands k a s =
+      rw (k .placed)
+      (lands-thrown ws D i hs room (suc i) (Word w) hs room 0 i (omega arith) a _
+      (leaps-move ws D (k .heap) (back.throw-moves ws (k .nodes) D hs room i w (k .inv) a (k .tagged) (s .is) (s .small))))
+
+  pub get-field : Comes ws D hs room 7 p i w → IsField ws p
+  unfolding shapeOf
+  get-field k = let n = first-node 7 refl k in (n .0, inl (n .1))
+
+  pub set-field : Comes ws D hs room 24 p i w → IsField ws p
+  unfolding shapeOf
+  set-field k = let n = second-node 24 refl k .0 in (n .0, inr (n .1))
+
+  -- a field is read
+  module _ (k : Comes ws D hs room 7 p i w) where
+    pub get-lands : (j : ℕ) → FieldSpot ws hs (nodeWord ws p 2) (nodeWord ws p 3) w j
+        → Lands ws D i hs room (suc i) (Word w) hs room (record { how = 2; word = getD hs j 0; place = 0; level = i; steps = 1 })
+    get-lands j s =
+        step-value hs room (getD hs j 0)
+        (back.redex-gives ws (k .nodes) D hs room i w (k .inv) _ _ _ (back.back-get ws (k .nodes) D hs room i w (k .inv) (k .tagged)) hs
+        (getD hs j 0) (rw (← k .placed) (s .reads)) (s .holds) (k .heap))
+
+    pub null-lands : (a : ℕ) → FieldRaises ws hs (nodeWord ws p 2) (nodeWord ws p 3) w a
+        → Lands ws D i hs room (suc i) (Word w) hs room (record { how = 3; word = a; place = p; level = i; steps = 1 })
+    null-lands a s =
+        let e = rw (k .placed) at (s .reads) in
+        rw (k .placed)
+        (step-thrown a _
+        (back.redex-raises ws (k .nodes) D hs room i w (k .inv) _ _ _ (back.back-get ws (k .nodes) D hs room i w (k .inv) (k .tagged)) a e
+        (s .known) (k .heap)))
+
+  -- a field is written
+  module _ (k : Comes ws D hs room 24 p i w) (j : ℕ)
+      (s : FieldSpot ws hs (nodeWord ws p 2) (nodeWord ws p 3) (word ws room i 2) j) where
+    written-heap : HeapOk ws (set hs j w) (getD room searchWord 0)
+    written-heap =
+        record {
+          words = s .keeps w (k .inv .here);
+          size = rw length-set (k .heap .size);
+          low = rw length-set (k .heap .low);
+          taken = λ a l. s .slots w a ∙ k .heap .taken a l;
+        }
+
+    pub set-lands : Lands ws D i hs room (suc i) (Word w) (set hs j w) room (record { how = 2; word = w; place = 0; level = i; steps = 1 })
+    set-lands =
+        step-value (set hs j w) room w
+        (back.redex-gives ws (k .nodes) D hs room i w (k .inv) _ _ _ (back.back-put ws (k .nodes) D hs room i w (k .inv) (k .tagged))
+        (set hs j w) w (rw (← k .placed) (s .writes w (k .inv .here))) (k .inv .here) written-heap)
+
+  -- an Assign of a variable that is set: no block takes the value up
+  set-unarmed : (l x : ℕ) → (getD room x 0 ≡ 0 → ⊥) → armed ws room l x ≡ false
+  unfolding armed
+  set-unarmed zero x d = refl
+  set-unarmed (suc j) x d = rw (ne-eqb (getD room x 0) 0 d) (go (eqb (tag ws room j) 10) (eqb (word ws room j 2) x))
+    where
+      go : (a b : Bool) → (a && b && false) ≡ false
+      go true true = refl
+      go true false = refl
+      go false b = refl
+
+  set-unarmed-seq : (l x : ℕ) → (getD room x 0 ≡ 0 → ⊥) → armedSeq ws room l x ≡ false
+  unfolding armedSeq
+  set-unarmed-seq zero x d = refl
+  set-unarmed-seq (suc j) x d = rw (set-unarmed j x d) (go (eqb (tag ws room j) 11 || eqb (tag ws room j) 29))
+    where
+      go : (a : Bool) → (a && false) ≡ false
+      go true = refl
+      go false = refl
+
+  pub assign-lands : Comes ws D hs room 6 p i w → (x : ℕ) → x ≡ nodeWord ws p 2 → (getD room x 0 ≡ 0 → ⊥)
+      → Lands ws D i hs room (suc i) (Word w) hs (set room x (suc w)) (record { how = 2; word = w; place = 0; level = i; steps = 1 })
+  assign-lands k x e d =
+      let q : x ≡ nodeWord ws (word ws room i 1) 2 = e ∙ ap (λ n. nodeWord ws n 2) (k .placed) in
+      rw q
+      (step-value hs _ w
+      (back.assign-steps ws (k .nodes) D hs room i w (k .inv) (k .heap) (k .tagged) (rw (← q) (set-unarmed-seq i x d))))
+
+  -- The first of two operands is a value: the frame becomes the second's.
+  abbrev seconds : ℕ → List ℕ
+  seconds t = set (set room (frameAt i) (t + 16)) (frameAt i + 2) w
+
+  first-moves : (t : ℕ) → Begun t → Comes ws D hs room t p i w → Moves ws D room (suc i) (Word w) (seconds t) (suc i) (Node (p - 1))
+  unfolding operand
+  first-moves t (inl (inl e)) k = rw (k .placed, e) (back.add-moves ws (k .nodes) D hs room i w (k .inv) (k .tagged ∙ e))
+  first-moves t (inl (inr e)) k = rw (k .placed, e) (back.eq-moves ws (k .nodes) D hs room i w (k .inv) (k .tagged ∙ e))
+  first-moves t (inr e) k = rw (k .placed, e) (back.set-moves ws (k .nodes) D hs room i w (k .inv) (k .tagged ∙ e))
+
+  pub first-lands : (t : ℕ) → Begun t → Comes ws D hs room t p i w
+      → Lands ws D i hs room (suc i) (Word w) hs (seconds t) (record { how = 1; word = p - 1; place = 0; level = suc i; steps = 0 })
+  first-lands t b k =
+      lands-node ws D i hs room (suc i) (Word w) hs (seconds t) 0 (suc i) (omega arith) (p - 1)
+      (leaps-move ws D (k .heap) (first-moves t b k))
+
+-- the second of two operands is a value
+module _ (ws : List ℕ) (nodes : (n : ℕ) → n < nodeCount ws → nodeHolds ws n ≡ true) (D : ℕ) (hs room : List ℕ) (i w : ℕ)
+    (inv : Inv ws D room (suc i) (Word w)) (heap : HeapOk ws hs (getD room searchWord 0)) where
+  pair-steps : (t u : ℕ) → Paired t → tag ws room i ≡ t + 16 → Pair t (word ws room i 2) w u
+      → Steps ws D hs room (suc i) (Word w) hs room i (Word u)
+  pair-steps t u (inl e) g r =
+      back.redex-gives ws nodes D hs room i w inv _ _ _ (back.back-add ws nodes D hs room i w inv (rw e at g)) hs u (r .sum e _) (r .is-value) heap
+  pair-steps t u (inr e) g r =
+      back.redex-gives ws nodes D hs room i w inv _ _ _ (back.back-eq ws nodes D hs room i w inv (rw e at g)) hs u (r .same e _) (r .is-value) heap
+
+module _ (ws : List ℕ) (D : ℕ) (hs room : List ℕ) (p i w : ℕ) (t u : ℕ) (b : Paired t) where
+  pub second-lands : Comes ws D hs room (t + 16) p i w → Pair t (word ws room i 2) w u
+      → Lands ws D i hs room (suc i) (Word w) hs room (record { how = 2; word = u; place = 0; level = i; steps = 1 })
+  second-lands k r = step-value ws D hs room p i w hs room u (pair-steps ws (k .nodes) D hs room i w (k .inv) (k .heap) t u b (k .tagged) r)
+
+  -- The second operand has its value without a frame: both are gone through in the room that would be, and no word is written.
+  module _ (k : Comes ws D hs room t p i w) where
+    abbrev then-room : List ℕ
+    then-room = seconds ws D hs room p i w t
+
+    long : frameAt i + 16 ≤ length room
+    long = omega (arith, k .inv .long, k .inv .level)
+
+    then-kept : Kept then-room room i
+    then-kept =
+        let q = kept-set (frameAt i + 2) w (omega arith) (kept-set (frameAt i) (t + 16) (omega arith) (kept-refl room i)) in
+        record { size = sym (q .size); same = λ j h. sym (q .same j h) }
+
+    then-tag : tag ws then-room i ≡ t + 16
+    then-tag =
+        getD-set-other (set room (frameAt i) (t + 16)) (frameAt i + 2) (frameAt i) w 0 (λ z. let y : frameAt i ≡ frameAt i + 2 = z in omega arith)
+        ∙ getD-set-same room (frameAt i) (t + 16) 0 (omega (arith, long))
+
+    then-first : word ws then-room i 2 ≡ w
+    then-first = getD-set-same (set room (frameAt i) (t + 16)) (frameAt i + 2) w 0 (rw length-set (omega (arith, long)))
+
+    pair-leaps : (v m : ℕ) → Eval ws hs room (p - 1) v m 0 → Pair t w v u → Leaps ws D (m + 1) hs room (suc i) (Word w) hs room i (Word u)
+    pair-leaps v m e r =
+        let a = leaps-move ws D (k .heap) (first-moves ws D hs room p i w t (inl b) k) in
+        let g = e .leaps D then-room (suc i) (λ x h. sym (then-kept .same x (omega arith))) (a .leads .inv) (a .leads .heap) (omega (arith, k .below)) in
+        let s = pair-steps ws (k .nodes) D hs then-room i v (g .leads .inv) (g .leads .heap) t u b then-tag (rw then-first r) in
+        let z : 0 + (m + 1) ≡ m + 1 = omega arith in
+        rw z at (leaps-kept ws D (leaps-on ws D a (leads-on ws D (g .leads) (leaps-step ws D s .leads))) then-kept)
+
+    pub pair-lands : (v m : ℕ) → Eval ws hs room (p - 1) v m 0 → Pair t w v u → m ≤ 5
+        → Lands ws D i hs room (suc i) (Word w) hs room (record { how = 2; word = u; place = 0; level = i; steps = m + 1 })
+    pair-lands v m e r h =
+        lands-value ws D i hs room (suc i) (Word w) hs room (m + 1) i (omega arith) u (pair-leaps v m e r) (omega arith)
+
+-- Where a value comes back, from what back_leap is promised.
+module _ {ws : List ℕ} {lay : Layout} {D : ℕ} {hs room memo : List ℕ} {i w : ℕ}
+    (pre : Good ws lay × Inv ws D room (suc i) (Word w) × HeapOk ws hs (getD room searchWord 0) × Memo ws memo × (suc i ≤ D)) where
+  pub comes : (t : ℕ) → tag ws room i ≡ t → Comes ws D hs room t (word ws room i 1) i w
+  comes t e =
+      record { nodes = pre .0 .nodes; inv = pre .1; heap = pre .2; tagged = e; placed = refl; below = pre .4 }
+
+  pub fielded : (p : ℕ) → IsField ws p → Fielded hs memo p
+  fielded p f = record { image = ws; table = pre .3; words = pre .2 .words; field = f }
+
+  pub inner-node : (p k : ℕ) → IsNode ws p k → 0 < operands (kindOf k) (nodeWord ws p 3) → 1 ≤ p
+  inner-node p k n h = inner ws (lay .nodes) p k (good-tabled ws lay (pre .0)) n h
+
+  pub long-room : frameAt (suc i) ≤ length room
+  long-room = pre .1 .fit .long
+
+-- Address a, thrown at place q, comes to frame i.
+module _ (ws : List ℕ) (D : ℕ) (hs room : List ℕ) (i a q : ℕ) where
+  pub unwound : (p : ℕ) (room' : List ℕ) → Steps ws D hs room (suc i) (Thrown a q) hs room' i (Thrown a p)
+      → Lands ws D i hs room (suc i) (Thrown a q) hs room' (record { how = 3; word = a; place = p; level = i; steps = 1 })
+  unwound p room' s =
+      lands-thrown ws D i hs room (suc i) (Thrown a q) hs room' 1 i (omega arith) a p (leaps-step ws D s)
+
+  module _ (p : ℕ) (k : Tried ws D hs room p i a q) where
+    pub pass-lands : Tries ws hs (nodeWord ws p 2) a Passes
+        → Lands ws D i hs room (suc i) (Thrown a q) hs room (record { how = 3; word = a; place = p; level = i; steps = 1 })
+    pass-lands e =
+        let z = rw (k .placed) at e in
+        rw (k .placed) (unwound _ room (pass-try ws (k .nodes) D hs room i a q (k .inv) (k .heap) (k .tagged) (z _ _ _ _)))
+
+    pub catch-lands : Tries ws hs (nodeWord ws p 2) a Catches
+        → Lands ws D i hs room (suc i) (Thrown a q) hs
+        (pushBlock room i p (nodeWord ws p 3) (4 + nodeWord ws p 2) (suc (4 * 2 ^ 32 + a)))
+        (record { how = 1; word = p - 1; place = 0; level = suc i; steps = 1 })
+    unfolding operand
+    catch-lands e =
+        let z = rw (k .placed) at e in
+        let u = address-word a (k .inv .here) in
+        rw (k .placed)
+        (lands-node ws D i hs room (suc i) (Thrown a q) hs _ 1 (suc i) (omega arith) _
+        (leaps-step ws D (catch-steps ws (k .nodes) D hs room i a q (k .inv) (k .heap) (k .tagged) _ (u .1) (u .0) (z _ _ _ _))))
