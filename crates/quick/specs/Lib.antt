@@ -1,2 +1,3 @@
 -- Operands that have their value without a frame.
 pub mod Known
+pub mod KnownLaws
