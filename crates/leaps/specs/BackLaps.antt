@@ -3,54 +3,43 @@ use mathlib.Core.Path.{_≡_, refl, sym, _∙_, ap}
 use mathlib.Core.Bool.{Bool, true, false, _&&_, _||_}
 use mathlib.Core.List.{List}
 use mathlib.Core.Logic.{inl, inr}
-use Prim.Native.Nat.{ℕ, zero, suc, _+_, _*_, _-_, _/_, _%_, _^_, _≤_, _<_}
+use Prim.Native.Nat.{ℕ, zero, suc, _+_, _*_, _-_, _^_, _≤_, _<_}
 use native.Mathlib.Omega.{arith}
 use lib.Dec.{eqb}
 use lib.ListN.{length, getD, set, length-set}
-use lib.Seq.{getD-set-same, getD-set-other}
 use borrow.Author.Tests.{ne-eqb}
-use Rattle.words.specs.declared.Value.{Value}
 use Rattle.image.specs.Numbers.{mostNodes}
 use Rattle.image.specs.Trailer.{nodeCount}
-use Rattle.image.specs.Nodes.{nodeWord, kindOf, operands, nodeHolds}
+use Rattle.image.specs.Nodes.{nodeWord, kindOf, operands}
 use Rattle.image.specs.Layout.{Good}
 use Rattle.image.specs.declared.Layout.{Layout}
 use Rattle.rules.specs.Trees.{operand}
-use Rattle.rules.specs.Step.{sameValue, eqRedex}
-use Rattle.laws.specs.Values.{valueAt, IsValue}
+use Rattle.laws.specs.Values.{IsValue}
 use Rattle.laws.specs.Trees.{operand-below}
 use Rattle.laws.specs.Tags.{address-word}
 use Rattle.objects.specs.Spots.{FieldSpot, FieldRaises}
 use Rattle.redexes.specs.declared.Choice.the-variants.{Then, Otherwise}
 use Rattle.redexes.specs.declared.Catch.the-variants.{Catches, Passes}
-use Rattle.redexes.specs.Outcomes.{redexOf, Chooses, ThrowsAt, Tries}
-use Rattle.redexes.specs.RedexLaws.{add-sum, add-word}
+use Rattle.redexes.specs.Outcomes.{Chooses, ThrowsAt, Tries}
 use Rattle.memo.specs.Memo.{IsField, Memo}
-use Rattle.quick.specs.Known.{Tabled, Stored, Eval}
+use Rattle.quick.specs.Known.{Tabled, Eval, IsPair, Gives}
+use Rattle.quick.specs.KnownLaws.{tabled, pair-steps, second-leaps}
 use Rattle.room.specs.declared.Focus.{Focus}
 use Rattle.room.specs.declared.Focus.the-variants.{Node, Value as Word, Thrown}
-use Rattle.room.specs.Room.{searchWord, frameAt, first, second, shapeOf, word, tag, IsNode, Fit}
-use Rattle.room.specs.RoomLaws.{Kept, kept-refl, kept-set, pushBlock}
+use Rattle.room.specs.Room.{searchWord, frameAt, first, second, shapeOf, word, tag, IsNode}
+use Rattle.room.specs.RoomLaws.{Kept, pushBlock}
 use Rattle.room.specs.Turn.{HeapOk, Inv, Moves, Steps}
 use Rattle.room.specs.Armed.{armed, armedSeq}
 use Rattle.room.specs.Back as back
 use Rattle.room.specs.Unwind.{pass-try, catch-steps}
 use Rattle.room.specs.Leads.{Leaps}
-use Rattle.room.specs.LeadsLaws.{leads-on, leaps-on, leaps-move, leaps-step, leaps-kept}
+use Rattle.room.specs.LeadsLaws.{leaps-move, leaps-step}
 use Rattle.leaps.specs.declared.Leap.{Leap}
 use Rattle.leaps.specs.Lands.{Lands}
-use Rattle.leaps.specs.Backs.{Comes, Paired, Begun, Pair, Fielded, Tried}
-
--- an accepted image has its nodes where the layout says
-pub good-tabled : (ws : List ℕ) (l : Layout) → Good ws l → Tabled ws (l .nodes)
-good-tabled ws l g =
-    record { nodes-at = g .lay .nodes-at; within = omega (arith, g .lay .whole, g .lay .node-count); holds = g .nodes }
+use Rattle.leaps.specs.Backs.{Comes, Begun, Fielded, Tried}
 
 pub few-nodes : {ws : List ℕ} {l : Layout} → Good ws l → (p : ℕ) → p < nodeCount ws → p < mostNodes
 few-nodes g p h = omega (arith, g .lay .node-count, g .small .nodes)
-
-pub fit-stored : (ws room : List ℕ) (l : ℕ) → Fit ws room l → Stored ws room
-fit-stored ws room l f = record { long = omega (arith, f .long); held-ok = f .held-ok }
 
 -- a node of a kind that has operands is not the first one
 pub inner : (ws : List ℕ) (nodes p k : ℕ) → Tabled ws nodes → IsNode ws p k → 0 < operands (kindOf k) (nodeWord ws p 3) → 1 ≤ p
@@ -60,18 +49,6 @@ pub begun-small : (t : ℕ) → Begun t → t ≤ 8
 begun-small t (inl (inl e)) = omega arith
 begun-small t (inl (inr e)) = omega arith
 begun-small t (inr e) = omega arith
-
--- an Add and an Eq of two values
-module _ (t v w : ℕ) where
-  pub pair-sum : IsValue v → IsValue w → (eqb (v / 2 ^ 32) 3 && eqb (w / 2 ^ 32) 3) ≡ true → (t ≡ 5 → ⊥)
-      → Pair t v w (3 * 2 ^ 32 + (v + w) % 2 ^ 32)
-  unfolding redexOf
-  pair-sum kv kw e d =
-      record { is-value = add-word v w kv kw; sum = λ z h. sym (add-sum v w kv kw e h); same = λ z. absurd (d z) }
-
-  pub pair-same : (u : ℕ) → valueAt u ≡ Value.Bool (sameValue (valueAt v) (valueAt w)) → IsValue u → t ≡ 5 → Pair t v w u
-  unfolding eqRedex
-  pair-same u e k d = record { is-value = k; sum = λ z. absurd (omega arith); same = λ z h. rw e }
 
 -- what a leap tells
 module _ (ws : List ℕ) (D top : ℕ) (hs room : List ℕ) (l : ℕ) (f : Focus) where
@@ -266,54 +243,22 @@ module _ (ws : List ℕ) (D : ℕ) (hs room : List ℕ) (p i w : ℕ) where
       lands-node ws D i hs room (suc i) (Word w) hs (seconds t) 0 (suc i) (omega arith) (p - 1)
       (leaps-move ws D (k .heap) (first-moves t b k))
 
--- the second of two operands is a value
-module _ (ws : List ℕ) (nodes : (n : ℕ) → n < nodeCount ws → nodeHolds ws n ≡ true) (D : ℕ) (hs room : List ℕ) (i w : ℕ)
-    (inv : Inv ws D room (suc i) (Word w)) (heap : HeapOk ws hs (getD room searchWord 0)) where
-  pair-steps : (t u : ℕ) → Paired t → tag ws room i ≡ t + 16 → Pair t (word ws room i 2) w u
-      → Steps ws D hs room (suc i) (Word w) hs room i (Word u)
-  pair-steps t u (inl e) g r =
-      back.redex-gives ws nodes D hs room i w inv _ _ _ (back.back-add ws nodes D hs room i w inv (rw e at g)) hs u (r .sum e _) (r .is-value) heap
-  pair-steps t u (inr e) g r =
-      back.redex-gives ws nodes D hs room i w inv _ _ _ (back.back-eq ws nodes D hs room i w inv (rw e at g)) hs u (r .same e _) (r .is-value) heap
-
-module _ (ws : List ℕ) (D : ℕ) (hs room : List ℕ) (p i w : ℕ) (t u : ℕ) (b : Paired t) where
-  pub second-lands : Comes ws D hs room (t + 16) p i w → Pair t (word ws room i 2) w u
+-- The values of both operands of an Add or an Eq are known.
+module _ (ws : List ℕ) (D : ℕ) (hs room : List ℕ) (p i w : ℕ) (t u : ℕ) where
+  pub second-lands : Comes ws D hs room (t + 16) p i w → (v : ℕ) → word ws room i 2 ≡ v → Gives t v w u
       → Lands ws D i hs room (suc i) (Word w) hs room (record { how = 2; word = u; place = 0; level = i; steps = 1 })
-  second-lands k r = step-value ws D hs room p i w hs room u (pair-steps ws (k .nodes) D hs room i w (k .inv) (k .heap) t u b (k .tagged) r)
+  second-lands k v e g =
+      step-value ws D hs room p i w hs room u
+      (pair-steps ws (k .nodes) hs room D room i t v w u (k .inv) (k .heap) (k .tagged) e g)
 
-  -- The second operand has its value without a frame: both are gone through in the room that would be, and no word is written.
-  module _ (k : Comes ws D hs room t p i w) where
-    abbrev then-room : List ℕ
-    then-room = seconds ws D hs room p i w t
-
-    long : frameAt i + 16 ≤ length room
-    long = omega (arith, k .inv .long, k .inv .level)
-
-    then-kept : Kept then-room room i
-    then-kept =
-        let q = kept-set (frameAt i + 2) w (omega arith) (kept-set (frameAt i) (t + 16) (omega arith) (kept-refl room i)) in
-        record { size = sym (q .size); same = λ j h. sym (q .same j h) }
-
-    then-tag : tag ws then-room i ≡ t + 16
-    then-tag =
-        getD-set-other (set room (frameAt i) (t + 16)) (frameAt i + 2) (frameAt i) w 0 (λ z. let y : frameAt i ≡ frameAt i + 2 = z in omega arith)
-        ∙ getD-set-same room (frameAt i) (t + 16) 0 (omega (arith, long))
-
-    then-first : word ws then-room i 2 ≡ w
-    then-first = getD-set-same (set room (frameAt i) (t + 16)) (frameAt i + 2) w 0 (rw length-set (omega (arith, long)))
-
-    pair-leaps : (v m : ℕ) → Eval ws hs room (p - 1) v m 0 → Pair t w v u → Leaps ws D (m + 1) hs room (suc i) (Word w) hs room i (Word u)
-    pair-leaps v m e r =
-        let a = leaps-move ws D (k .heap) (first-moves ws D hs room p i w t (inl b) k) in
-        let g = e .leaps D then-room (suc i) (λ x h. sym (then-kept .same x (omega arith))) (a .leads .inv) (a .leads .heap) (omega (arith, k .below)) in
-        let s = pair-steps ws (k .nodes) D hs then-room i v (g .leads .inv) (g .leads .heap) t u b then-tag (rw then-first r) in
-        let z : 0 + (m + 1) ≡ m + 1 = omega arith in
-        rw z at (leaps-kept ws D (leaps-on ws D a (leads-on ws D (g .leads) (leaps-step ws D s .leads))) then-kept)
-
-    pub pair-lands : (v m : ℕ) → Eval ws hs room (p - 1) v m 0 → Pair t w v u → m ≤ 5
-        → Lands ws D i hs room (suc i) (Word w) hs room (record { how = 2; word = u; place = 0; level = i; steps = m + 1 })
-    pair-lands v m e r h =
-        lands-value ws D i hs room (suc i) (Word w) hs room (m + 1) i (omega arith) u (pair-leaps v m e r) (omega arith)
+  pub pair-lands : IsPair t → Comes ws D hs room t p i w → (v m : ℕ) → Eval ws hs room (p - 1) v m 0 → Gives t w v u → m ≤ 5
+      → Lands ws D i hs room (suc i) (Word w) hs room (record { how = 2; word = u; place = 0; level = i; steps = m + 1 })
+  unfolding operand
+  pair-lands b k v m e g h =
+      lands-value ws D i hs room (suc i) (Word w) hs room (m + 1) i (omega arith) u
+      (second-leaps ws (k .nodes) hs room D room i p t w v u m 0 (λ x l. refl) (k .inv) (k .heap) (omega (arith, k .below)) b (k .tagged)
+      (sym (k .placed)) e g)
+      (omega arith)
 
 -- Where a value comes back, from what back_leap is promised.
 module _ {ws : List ℕ} {lay : Layout} {D : ℕ} {hs room memo : List ℕ} {i w : ℕ}
@@ -326,7 +271,7 @@ module _ {ws : List ℕ} {lay : Layout} {D : ℕ} {hs room memo : List ℕ} {i w
   fielded p f = record { image = ws; table = pre .3; words = pre .2 .words; field = f }
 
   pub inner-node : (p k : ℕ) → IsNode ws p k → 0 < operands (kindOf k) (nodeWord ws p 3) → 1 ≤ p
-  inner-node p k n h = inner ws (lay .nodes) p k (good-tabled ws lay (pre .0)) n h
+  inner-node p k n h = inner ws (lay .nodes) p k (tabled (pre .0)) n h
 
   pub long-room : frameAt (suc i) ≤ length room
   long-room = pre .1 .fit .long

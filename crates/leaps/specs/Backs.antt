@@ -8,11 +8,9 @@ use lib.ListN.{getD}
 use Rattle.image.specs.Trailer.{classCount, nodeCount}
 use Rattle.image.specs.Nodes.{nodeHolds}
 use Rattle.rules.specs.Program.{program}
-use Rattle.rules.specs.Heap.{Heap}
-use Rattle.rules.specs.Step.{gives, addRedex, eqRedex}
-use Rattle.laws.specs.Values.{valueAt, IsValue}
 use Rattle.laws.specs.Heap.{Words}
 use Rattle.memo.specs.Memo.{IsField, Memo}
+use Rattle.quick.specs.Known.{IsPair}
 use Rattle.room.specs.declared.Focus.the-variants.{Value as Word, Thrown}
 use Rattle.room.specs.Room.{searchWord, word, tag}
 use Rattle.room.specs.Turn.{HeapOk, Inv}
@@ -33,18 +31,9 @@ abbrev pub LandsBack : (ws room : List ℕ) (t p i w : ℕ) (room' : List ℕ) �
 LandsBack ws room t p i w room' r =
     (D : ℕ) (hs : List ℕ) → Comes ws D hs room t p i w → Lands ws D i hs room (suc i) (Word w) hs room' r
 
--- the tags of Add and Eq, and of Set, where the first operand is active
-abbrev pub Paired : ℕ → Type 0
-Paired t = (t ≡ 4) ⊎ (t ≡ 5)
-
+-- the tags of Add, Eq and Set where the first operand is active
 abbrev pub Begun : ℕ → Type 0
-Begun t = Paired t ⊎ (t ≡ 8)
-
--- the value of u is that of an Add, 4, or an Eq, 5, of the values of v and w
-pub record Pair (t v w u : ℕ) : Type 0 where
-  pub is-value : IsValue u
-  pub sum : t ≡ 4 → (h : Heap) → addRedex h (valueAt v) (valueAt w) ≡ gives h (valueAt u)
-  pub same : t ≡ 5 → (h : Heap) → eqRedex h (valueAt v) (valueAt w) ≡ gives h (valueAt u)
+Begun t = IsPair t ⊎ (t ≡ 8)
 
 -- node p has a field, and the table of what was found is true of its image and of the heap
 pub record Fielded (hs memo : List ℕ) (p : ℕ) : Type 0 where

@@ -6,18 +6,16 @@ ghost use lib.ListN.{length, getD};
 ghost use Rattle.words.specs.Value.{addresses};
 ghost use Rattle.image.specs.Numbers.{mostNodes, variables};
 ghost use Rattle.image.specs.Trailer.{classCount, nodeCount};
-ghost use Rattle.image.specs.Nodes.{nodeWord};
 ghost use Rattle.rules.specs.Trees.{operand};
 ghost use Rattle.rules.specs.Program.{program};
-ghost use Rattle.laws.specs.Trees.{operandCount};
 ghost use Rattle.laws.specs.Values.{IsValue};
 ghost use Rattle.laws.specs.Heap.{Words};
 ghost use Rattle.memo.specs.Memo.{Memo};
-ghost use Rattle.quick.specs.Known.{Tabled, Stored};
+ghost use Rattle.quick.specs.Known.{Tabled, Stored, IsPair};
 ghost use Rattle.room.specs.declared.Focus.the-variants.{Value as Word, Thrown};
 ghost use Rattle.room.specs.Room.{frameAt, word, IsNode};
 ghost use Rattle.leaps.specs.Lands.{Lands};
-ghost use Rattle.leaps.specs.Backs.{Comes, LandsBack, Paired, Begun, Pair, Fielded, Tried};
+ghost use Rattle.leaps.specs.Backs.{Comes, LandsBack, Begun, Fielded, Tried};
 use crate::Leap;
 use heap::NULL_POINTER;
 use room::ADDRESS;
@@ -27,37 +25,6 @@ use room::FRAMES;
 use room::LOOP;
 use room::SECOND;
 use words::TAG;
-
-// Word k of node n, where nodes begin at word `nodes`.
-pub fn word_at(ws: &[u32], nodes: usize, n: usize, k: usize) -> u32
-    requires { ⌜ Tabled (now ws) nodes × (n < nodeCount (now ws)) × (k < 4) ⌝ }
-    ensures { λ r. ⌜ r ≡ nodeWord (now (ws .entry)) n k ⌝ }
-{
-    ws[nodes + 4 * n + k]
-}
-
-// The first of a node's two operands, or the second of three.
-pub fn before_last(ws: &[u32], nodes: usize, n: usize) -> usize
-    requires { ⌜ Tabled (now ws) nodes × (n < nodeCount (now ws)) × (1 < operandCount (now ws) n) ⌝ }
-    ensures { λ r. ⌜ r ≡ operand (now (ws .entry)) n 1 ⌝ }
-{
-    let last = n - 1;
-    last - word_at(ws, nodes, last, 1) as usize
-}
-
-// The word of an Add, 4, or an Eq, 5, of two values, and 1 more; or 0, where there is none.
-fn pair(t: u64, v: u64, w: u64) -> u64
-    requires { ⌜ Paired t × IsValue v × IsValue w ⌝ }
-    ensures { λ r. ⌜ ((u : ℕ) → r ≡ suc u → Pair t v w u) ⌝ }
-{
-    if t == 5 {
-        return redexes::eq_redex(v, w) + 1;
-    }
-    if (v / TAG == 3) & (w / TAG == 3) {
-        return 3 * TAG + (v + w) % TAG + 1;
-    }
-    0
-}
 
 // The first operand of an Add, an Eq or a Set, whose tag is t: the frame keeps it, and the second is gone into.
 pub fn first(room: &mut [u64], t: u64, p: usize, i: usize, w: u64) -> Leap
@@ -80,14 +47,14 @@ pub fn first_of_pair(
     i: usize,
     w: u64,
 ) -> Leap
-    requires { ⌜ Tabled (now ws) nodes × Stored (now ws) (now room) × Paired t × (1 ≤ p) × (p < nodeCount (now ws)) × (frameAt (suc i) ≤ length (now room)) × IsValue w ⌝ }
+    requires { ⌜ Tabled (now ws) nodes × Stored (now ws) (now room) × IsPair t × (1 ≤ p) × (p < nodeCount (now ws)) × (frameAt (suc i) ≤ length (now room)) × IsValue w ⌝ }
     ensures { λ r. ⌜ LandsBack (now (ws .entry)) (now (room .entry)) t p i w (now (room .exit)) r ⌝ }
 {
     let b = quick::leaf(ws, nodes, room, p - 1);
     if b.held == 0 {
         return first(room, t, p, i, w);
     }
-    let h = pair(t, w, b.held - 1);
+    let h = quick::pair_word(t, w, b.held - 1);
     if h == 0 {
         return crate::none();
     }
@@ -96,10 +63,10 @@ pub fn first_of_pair(
 
 // The second operand of an Add or an Eq, whose first one's word is v.
 pub fn second_of_pair(t: u64, i: usize, v: u64, w: u64) -> Leap
-    requires { ⌜ Paired t × IsValue v × IsValue w ⌝ }
+    requires { ⌜ IsPair t × IsValue v × IsValue w ⌝ }
     ensures { λ r. ⌜ ((ws room : List ℕ) (p : ℕ) → word ws room i 2 ≡ v → LandsBack ws room (t + 16) p i w room r) ⌝ }
 {
-    let h = pair(t, v, w);
+    let h = quick::pair_word(t, v, w);
     if h == 0 {
         return crate::none();
     }
@@ -111,7 +78,7 @@ pub fn assign(ws: &[u32], nodes: usize, room: &mut [u64], p: usize, i: usize, w:
     requires { ⌜ Tabled (now ws) nodes × IsNode (now ws) p 6 × (frameAt (suc i) ≤ length (now room)) × IsValue w ⌝ }
     ensures { λ r. ⌜ LandsBack (now (ws .entry)) (now (room .entry)) 6 p i w (now (room .exit)) r ⌝ }
 {
-    let x = word_at(ws, nodes, p, 2) as usize;
+    let x = quick::word_at(ws, nodes, p, 2) as usize;
     if room[x] == 0 {
         return crate::none();
     }
@@ -164,7 +131,7 @@ pub fn choice(ws: &[u32], nodes: usize, p: usize, i: usize, w: u64) -> Leap
     ensures { λ r. ⌜ ((room : List ℕ) → LandsBack (now (ws .entry)) room 12 p i w room r) ⌝ }
 {
     if w == 2 * TAG + 1 {
-        return crate::at_node(before_last(ws, nodes, p), i, 1);
+        return crate::at_node(quick::first_of_two(ws, nodes, p), i, 1);
     }
     if w == 2 * TAG {
         return crate::at_node(p - 1, i, 1);
@@ -215,8 +182,8 @@ pub fn unwind_try(
     match memo::caught(heap, memo, p, a) {
         1 => crate::at_thrown(a, p, i, 1),
         2 => {
-            let c = word_at(ws, nodes, p, 2) as u64;
-            let x = word_at(ws, nodes, p, 3) as usize;
+            let c = quick::word_at(ws, nodes, p, 2) as u64;
+            let x = quick::word_at(ws, nodes, p, 3) as usize;
             enter::push_block(room, i, p, x, CLASS + c, ADDRESS + a as u64 + 1);
             crate::at_node(p - 1, i + 1, 1)
         }

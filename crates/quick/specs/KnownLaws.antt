@@ -207,7 +207,7 @@ module _ (ws : List ℕ) (nodes : (n : ℕ) → n < nodeCount ws → nodeHolds w
     pair-moves (inl e) q = rw e (back.add-moves ws nodes D hs r l v inv (q ∙ e))
     pair-moves (inr e) q = rw e (back.eq-moves ws nodes D hs r l v inv (q ∙ e))
 
-  pair-steps : (D : ℕ) (r : List ℕ) (l t v w u : ℕ) → Inv ws D r (suc l) (Word w) → HeapOk ws hs (getD r searchWord 0)
+  pub pair-steps : (D : ℕ) (r : List ℕ) (l t v w u : ℕ) → Inv ws D r (suc l) (Word w) → HeapOk ws hs (getD r searchWord 0)
       → tag ws r l ≡ t + 16 → word ws r l 2 ≡ v → Gives t v w u → Steps ws D hs r (suc l) (Word w) hs r l (Word u)
   pair-steps D r l t v w u i o q a s = go (s .redex)
     where

@@ -1,7 +1,8 @@
 -- `leaps::back_leap` meets its contract.
 use Rattle.image.specs.Nodes.{kindOf, operands}
 use Rattle.leaps.proofs.back_leap.Statement.{statement}
-use Rattle.leaps.specs.BackLaps.{comes, few-nodes, fielded, first-node, fit-stored, get-field, good-tabled, inner-node, lands-none, long-room, loop-lands, second-node, seq-lands, set-field, test-node, try-lands}
+use Rattle.leaps.specs.BackLaps.{comes, few-nodes, fielded, first-node, get-field, inner-node, lands-none, long-room, loop-lands, second-node, seq-lands, set-field, test-node, try-lands}
+use Rattle.quick.specs.KnownLaws.{stored, tabled}
 use Rattle.room.specs.Room.{shapeOf}
 use Rattle.room.specs.RoomLaws.{fit-variable, kept-refl}
 use borrow.Author.Needs.{needs}
@@ -33,15 +34,15 @@ slice-read-match c = search needs
 
 first-of-pair-requires : tie.Need-first-of-pair-requires
 unfolding shapeOf kindOf operands
-first-of-pair-requires c κs = let n = first-node _ _ _ _ _ _ _ 4 refl (comes (c .before .before .before .before .before .before .before .before .pre) 4 (c .before .match .keys1)) in (good-tabled _ _ (c .before .before .before .before .before .before .before .before .pre .0), fit-stored _ _ _ (c .before .before .before .before .before .before .before .before .pre .1 .fit), inl refl, inner-node (c .before .before .before .before .before .before .before .before .pre) _ 4 n (omega arith), n .0, long-room (c .before .before .before .before .before .before .before .before .pre), c .before .before .before .before .before .before .before .before .pre .1 .here)
+first-of-pair-requires c κs = let n = first-node _ _ _ _ _ _ _ 4 refl (comes (c .before .before .before .before .before .before .before .before .pre) 4 (c .before .match .keys1)) in (tabled (c .before .before .before .before .before .before .before .before .pre .0), stored (c .before .before .before .before .before .before .before .before .pre .1 .fit), inl refl, inner-node (c .before .before .before .before .before .before .before .before .pre) _ 4 n (omega arith), n .0, long-room (c .before .before .before .before .before .before .before .before .pre), c .before .before .before .before .before .before .before .before .pre .1 .here)
 
 first-of-pair-requires-2 : tie.Need-first-of-pair-requires-2
 unfolding shapeOf kindOf operands
-first-of-pair-requires-2 c κs = let n = first-node _ _ _ _ _ _ _ 5 refl (comes (c .before .before .before .before .before .before .before .before .pre) 5 (c .before .match .keys2)) in (good-tabled _ _ (c .before .before .before .before .before .before .before .before .pre .0), fit-stored _ _ _ (c .before .before .before .before .before .before .before .before .pre .1 .fit), inr refl, inner-node (c .before .before .before .before .before .before .before .before .pre) _ 5 n (omega arith), n .0, long-room (c .before .before .before .before .before .before .before .before .pre), c .before .before .before .before .before .before .before .before .pre .1 .here)
+first-of-pair-requires-2 c κs = let n = first-node _ _ _ _ _ _ _ 5 refl (comes (c .before .before .before .before .before .before .before .before .pre) 5 (c .before .match .keys2)) in (tabled (c .before .before .before .before .before .before .before .before .pre .0), stored (c .before .before .before .before .before .before .before .before .pre .1 .fit), inr refl, inner-node (c .before .before .before .before .before .before .before .before .pre) _ 5 n (omega arith), n .0, long-room (c .before .before .before .before .before .before .before .before .pre), c .before .before .before .before .before .before .before .before .pre .1 .here)
 
 assign-requires : tie.Need-assign-requires
 unfolding shapeOf kindOf operands
-assign-requires c κs = (good-tabled _ _ (c .before .before .before .before .before .before .before .before .pre .0), first-node _ _ _ _ _ _ _ 6 refl (comes (c .before .before .before .before .before .before .before .before .pre) 6 (c .before .match .keys3)), long-room (c .before .before .before .before .before .before .before .before .pre), c .before .before .before .before .before .before .before .before .pre .1 .here)
+assign-requires c κs = (tabled (c .before .before .before .before .before .before .before .before .pre .0), first-node _ _ _ _ _ _ _ 6 refl (comes (c .before .before .before .before .before .before .before .before .pre) 6 (c .before .match .keys3)), long-room (c .before .before .before .before .before .before .before .before .pre), c .before .before .before .before .before .before .before .before .pre .1 .here)
 
 get-requires : tie.Need-get-requires
 unfolding shapeOf kindOf operands
@@ -63,7 +64,7 @@ at-node-requires c κs = search needs
 
 choice-requires : tie.Need-choice-requires
 unfolding shapeOf kindOf operands
-choice-requires c κs = (good-tabled _ _ (c .before .before .before .before .before .before .before .pre .0), first-node _ _ _ _ _ _ _ 12 refl (comes (c .before .before .before .before .before .before .before .pre) 12 (c .match .keys8)))
+choice-requires c κs = (tabled (c .before .before .before .before .before .before .before .pre .0), first-node _ _ _ _ _ _ _ 12 refl (comes (c .before .before .before .before .before .before .before .pre) 12 (c .match .keys8)))
 
 test-requires : tie.Need-test-requires
 unfolding shapeOf kindOf operands

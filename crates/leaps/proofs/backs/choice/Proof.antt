@@ -14,15 +14,15 @@ mul-if1 c = search needs
 add-if1 : tie.Need-add-if1
 add-if1 c = search needs
 
-before-last-requires : tie.Need-before-last-requires
+first-of-two-requires : tie.Need-first-of-two-requires
 unfolding kindOf operands
-before-last-requires c κs = let p = c .before .before .pre in (p .0, p .1 .0, rw (p .1 .1) (omega arith))
+first-of-two-requires c κs = let p = c .before .before .pre in (p .0, p .1 .0, rw (p .1 .1) (omega arith))
 
 at-node-requires : tie.Need-at-node-requires
 at-node-requires c κs = search needs
 
 returns : tie.Need-returns
-returns c = λ room D hs k. rw (c .at-node .ensures, c .before .before-last .ensures) (then-lands _ D hs room _ _ _ k (if-then _ (c .before .before .if1 .taken)))
+returns c = λ room D hs k. rw (c .at-node .ensures, c .before .first-of-two .ensures .0) (then-lands _ D hs room _ _ _ k (if-then _ (c .before .before .if1 .taken)))
 
 mul-if2 : tie.Need-mul-if2
 mul-if2 c = search needs
@@ -49,7 +49,7 @@ choice-spec =
     (tie.spec
     mul-if1
     add-if1
-    before-last-requires
+    first-of-two-requires
     at-node-requires
     returns
     mul-if2

@@ -25,11 +25,11 @@ same-length c = search needs
 returns : tie.Need-returns
 returns c = λ D hs k. c .before .before .first .ensures _ D hs k
 
-sub-pair : tie.Need-sub-pair
-sub-pair c = search needs
+sub-pair-word : tie.Need-sub-pair-word
+sub-pair-word c = search needs
 
-pair-requires : tie.Need-pair-requires
-pair-requires c κs = let z : c .before .before .before .leaf .result .held ≡ suc (c .before .before .before .leaf .result .held - 1) = omega (arith, c .before .if1 .left) in (c .before .before .before .before .before .before .before .pre .2, c .before .before .before .before .before .before .before .pre .6, (c .before .before .before .leaf .ensures []) .eval _ z .is-value)
+pair-word-requires : tie.Need-pair-word-requires
+pair-word-requires c κs = let z : c .before .before .before .leaf .result .held ≡ suc (c .before .before .before .leaf .result .held - 1) = omega (arith, c .before .if1 .left) in (c .before .before .before .before .before .before .before .pre .2, c .before .before .before .before .before .before .before .pre .6, (c .before .before .before .leaf .ensures []) .eval _ z .is-value)
 
 none-requires : tie.Need-none-requires
 none-requires c κs = search needs
@@ -53,7 +53,7 @@ same-length-3 : tie.Need-same-length-3
 same-length-3 c = search needs
 
 returns-3 : tie.Need-returns-3
-returns-3 c = λ D hs k. let z : c .before .before .before .before .before .before .before .leaf .result .held ≡ suc (c .before .before .before .before .before .before .before .leaf .result .held - 1) = omega (arith, c .before .before .before .before .before .if1 .left) in let y : c .before .before .before .pair .result ≡ suc (c .before .before .before .pair .result - 1) = omega (arith, c .before .before .if2 .left) in rw (c .at-value .ensures) (pair-lands _ D hs _ _ _ _ _ _ (c .before .before .before .before .before .before .before .before .before .before .before .pre .2) k _ _ ((c .before .before .before .before .before .before .before .leaf .ensures hs) .eval _ z) (c .before .before .before .pair .ensures _ y) ((c .before .before .before .before .before .before .before .leaf .ensures hs) .few))
+returns-3 c = λ D hs k. let z : c .before .before .before .before .before .before .before .leaf .result .held ≡ suc (c .before .before .before .before .before .before .before .leaf .result .held - 1) = omega (arith, c .before .before .before .before .before .if1 .left) in let y : c .before .before .before .pair-word .result ≡ suc (c .before .before .before .pair-word .result - 1) = omega (arith, c .before .before .if2 .left) in rw (c .at-value .ensures) (pair-lands _ D hs _ _ _ _ _ _ (c .before .before .before .before .before .before .before .before .before .before .before .pre .2) k _ _ ((c .before .before .before .before .before .before .before .leaf .ensures hs) .eval _ z) (c .before .before .before .pair-word .ensures _ y) ((c .before .before .before .before .before .before .before .leaf .ensures hs) .few))
 
 pub first-of-pair-spec : {M : Type 1} → statement M
 first-of-pair-spec =
@@ -64,8 +64,8 @@ first-of-pair-spec =
     first-requires
     same-length
     returns
-    sub-pair
-    pair-requires
+    sub-pair-word
+    pair-word-requires
     none-requires
     same-length-2
     returns-2

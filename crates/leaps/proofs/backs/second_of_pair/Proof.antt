@@ -8,8 +8,8 @@ use mathlib.Core.Path.{_≡_}
 use native.Mathlib.Omega.{arith}
 use Rattle.leaps.proofs.backs.second_of_pair.Tie as tie
 
-pair-requires : tie.Need-pair-requires
-pair-requires c κs = search needs
+pair-word-requires : tie.Need-pair-word-requires
+pair-word-requires c κs = search needs
 
 none-requires : tie.Need-none-requires
 none-requires c κs = search needs
@@ -24,9 +24,9 @@ at-value-requires : tie.Need-at-value-requires
 at-value-requires c κs = search needs
 
 returns-2 : tie.Need-returns-2
-returns-2 c = λ ws room p q D hs k. let z : c .before .before .pair .result ≡ suc (c .before .before .pair .result - 1) = omega (arith, c .before .if1 .left) in rw (c .at-value .ensures) (second-lands ws D hs room p _ _ _ _ (c .before .before .before .pre .0) k (rw q (c .before .before .pair .ensures _ z)))
+returns-2 c = λ ws room p q D hs k. let z : c .before .before .pair-word .result ≡ suc (c .before .before .pair-word .result - 1) = omega (arith, c .before .if1 .left) in rw (c .at-value .ensures) (second-lands ws D hs room p _ _ _ _ k _ q (c .before .before .pair-word .ensures _ z))
 
 pub second-of-pair-spec : {M : Type 1} → statement M
 second-of-pair-spec =
     tie.close
-    (tie.spec pair-requires none-requires returns sub-at-value at-value-requires returns-2)
+    (tie.spec pair-word-requires none-requires returns sub-at-value at-value-requires returns-2)
