@@ -12,6 +12,8 @@ ghost use Rattle.memo.specs.Memo.{Memo};
 ghost use Rattle.leaps.specs.Lands.{Lands};
 use image::Layout;
 
+mod enters;
+
 // What a leap comes to. The word is a node, a value's word, or an address, and with an address the place is told.
 pub struct Leap {
     pub how: u64,
@@ -42,6 +44,42 @@ fn none() -> Leap
     }
 }
 
+fn at_node(n: usize, level: usize, steps: u64) -> Leap
+    ensures { λ r. ⌜ r ≡ record { how = 1; word = n; place = 0; level = level; steps = steps } ⌝ }
+{
+    Leap {
+        how: NODE,
+        word: n as u64,
+        place: 0,
+        level: level,
+        steps: steps,
+    }
+}
+
+fn at_value(w: u64, level: usize, steps: u64) -> Leap
+    ensures { λ r. ⌜ r ≡ record { how = 2; word = w; place = 0; level = level; steps = steps } ⌝ }
+{
+    Leap {
+        how: VALUE,
+        word: w,
+        place: 0,
+        level: level,
+        steps: steps,
+    }
+}
+
+fn at_thrown(a: usize, place: usize, level: usize, steps: u64) -> Leap
+    ensures { λ r. ⌜ r ≡ record { how = 3; word = a; place = place; level = level; steps = steps } ⌝ }
+{
+    Leap {
+        how: THROWN,
+        word: a as u64,
+        place: place,
+        level: level,
+        steps: steps,
+    }
+}
+
 // From node n on, under l frames.
 pub fn enter_leap(
     ws: &[u32],
@@ -58,7 +96,18 @@ pub fn enter_leap(
     requires { ⌜ Good (now ws) lay × Rows (now ws) (now counts) (now types) × Inv (now ws) depth (now room) l (Node n) × HeapOk (now ws) (now heap) (getD (now room) searchWord 0) × Memo (now ws) (now memo) × (l + 3 ≤ depth) ⌝ }
     ensures { λ r. ⌜ Lands (now (ws .entry)) depth l (now (heap .entry)) (now (room .entry)) l (Node n) (now (heap .exit)) (now (room .exit)) r ⌝ }
 {
-    none()
+    let nodes = lay.nodes;
+    let kind = enters::word_at(ws, nodes, n, 0);
+    match kind {
+        0 => enters::new(ws, lay, counts, types, heap, room, n, l),
+        2 => enters::leaf(ws, nodes, room, n, l),
+        3 => enters::leaf(ws, nodes, room, n, l),
+        9 => none(),
+        10 => enters::block(ws, nodes, room, n, l),
+        1 | 14 => enters::first(room, kind, n, n - 1, l),
+        8 | 11 | 15 => enters::first(room, kind, n, enters::before_last(ws, nodes, n), l),
+        _ => enters::with_quick(ws, nodes, heap, room, memo, kind, n, l),
+    }
 }
 
 // A value comes back to frame i.
