@@ -12,29 +12,24 @@ use lib.ListN.{length, getD, set, length-set}
 use lib.Seq.{getD-set-same, getD-set-other}
 use borrow.Author.Tests.{ne-eqb, eqb-false}
 use Rattle.image.specs.declared.Layout.{Layout}
-use Rattle.image.specs.Numbers.{variables}
-use Rattle.image.specs.Trailer.{nodeCount}
 use Rattle.image.specs.Nodes.{nodeWord, kindOf, operands, nodeHolds}
 use Rattle.image.specs.Layout.{Good}
 use Rattle.rules.specs.Trees.{operand}
-use Rattle.rules.specs.Program.{program}
-use Rattle.rules.specs.Heap.{heapOf}
-use Rattle.laws.specs.Trees.{operandCount, operand-below, operand-after, operand-size}
-use Rattle.laws.specs.Values.{IsValue}
+use Rattle.laws.specs.Trees.{operandCount, operand-below}
 use Rattle.redexes.specs.declared.Choice.the-variants.{Then, Otherwise}
 use Rattle.redexes.specs.Outcomes.{Chooses}
 use Rattle.redexes.specs.RedexLaws.{if-then, if-otherwise}
 use Rattle.room.specs.declared.Focus.{Focus}
 use Rattle.room.specs.declared.Focus.the-variants.{Node, Value}
 use Rattle.room.specs.Room.{searchWord, frameAt, shapeOf, first, word, tag}
-use Rattle.room.specs.RoomLaws.{Kept, kept-refl, kept-set, push, push-kept, push-tag, push-place, pushBlock}
+use Rattle.room.specs.RoomLaws.{Kept, push, push-kept, push-tag, push-place, pushBlock}
 use Rattle.room.specs.Turn.{HeapOk, Inv}
 use Rattle.room.specs.Enter.{enter-first}
 use Rattle.room.specs.Nodes.{while-steps, enter-block, assign-local}
 use Rattle.room.specs.Back.{assign-steps, then-steps, else-steps, over-steps, again-steps}
 use Rattle.room.specs.Armed.{armed, armedSeq}
-use Rattle.room.specs.Leads.{Leads, Leaps}
-use Rattle.room.specs.LeadsLaws.{leaps-move, leaps-step, leads-on, leaps-on, leaps-kept}
+use Rattle.room.specs.Leads.{Leaps}
+use Rattle.room.specs.LeadsLaws.{leaps-move, leaps-step, leaps-on, leaps-kept}
 use Rattle.quick.specs.declared.Quick.{Quick}
 use Rattle.quick.specs.Known.{Tabled, Stored, Eval, Known}
 use Rattle.leaps.specs.Lands.{Lands}

@@ -3,3 +3,4 @@ pub mod Lands
 pub mod LandsLaws
 pub mod Enters
 pub mod EnterLaps
+pub mod CallLaps

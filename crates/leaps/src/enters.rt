@@ -1,7 +1,7 @@
 // Leaps from a node: where its operands have their values without a frame, the node's own step is taken at once.
 ghost use mathlib.Core.Path.{_≡_};
 ghost use mathlib.Core.List.{List};
-ghost use Prim.Native.Nat.{ℕ, suc, _+_, _*_, _≤_, _<_};
+ghost use Prim.Native.Nat.{ℕ, suc, _+_, _-_, _≤_, _<_};
 ghost use lib.ListN.{length, getD};
 ghost use Rattle.image.specs.Nodes.{nodeWord};
 ghost use Rattle.image.specs.Layout.{Good};
@@ -11,17 +11,23 @@ ghost use Rattle.rules.specs.Trees.{operand};
 ghost use Rattle.laws.specs.Heap.{Words};
 ghost use Rattle.laws.specs.Trees.{operandCount};
 ghost use Rattle.heap.specs.Rows.{Rows};
+ghost use Rattle.room.specs.declared.Focus.the-variants.{Node};
 ghost use Rattle.room.specs.Room.{searchWord, frameAt};
-ghost use Rattle.room.specs.Turn.{HeapOk};
+ghost use Rattle.room.specs.RoomLaws.{Kept};
+ghost use Rattle.room.specs.Turn.{HeapOk, Inv};
 ghost use Rattle.memo.specs.Memo.{Memo};
 ghost use Rattle.quick.specs.Known.{Tabled, Stored, Known, mostQuick};
-ghost use Rattle.leaps.specs.Enters.{Holds, Enters, First, Asked, Whole, Quickly};
+ghost use Rattle.leaps.specs.Lands.{Lands};
+ghost use Rattle.leaps.specs.Enters.{Holds, Enters, First, Asked, Whole, Quickly, Ready};
 use crate::Leap;
 use image::Layout;
 use order::Found;
 use quick::Quick;
 use room::ADDRESS;
+use room::FRAME_WORDS;
+use room::FRAMES;
 use room::LOOP;
+use room::OPERANDS;
 use room::SEARCH;
 use words::TAG;
 
@@ -229,4 +235,84 @@ pub fn with_quick(
         13 => repeat(room, n, m, l, q),
         _ => whole(ws, nodes, room, kind, n, l, q),
     }
+}
+
+// The value of a Call's operand m.
+fn argument(ws: &[u32], nodes: usize, heap: &[u64], room: &[u64], memo: &[u64], m: usize) -> Quick
+    requires { ⌜ Tabled (now ws) nodes × (m < nodeCount (now ws)) × Stored (now ws) (now room) × Words (program (now ws)) (classCount (now ws)) (now heap) × Memo (now ws) (now memo) ⌝ }
+    ensures { λ r. ⌜ Known (now (ws .entry)) (now (heap .entry)) (now (room .entry)) m 1 r ⌝ }
+{
+    let q = quick::leaf(ws, nodes, room, m);
+    let h = q.held;
+    if h != 0 {
+        return q;
+    }
+    quick::shallow(ws, nodes, room, heap, memo, m)
+}
+
+// The operands of a Call with y arguments, from the last to the receiver: their values are written into the words of frame l. The
+// answer is 1 more than the steps to them, or 0 where one of them has no value that is known.
+fn gather(
+    ws: &[u32],
+    nodes: usize,
+    heap: &[u64],
+    room: &mut [u64],
+    memo: &[u64],
+    n: usize,
+    l: usize,
+    y: usize,
+) -> u64
+    requires { ⌜ Tabled (now ws) nodes × (n < nodeCount (now ws)) × (nodeWord (now ws) n 0 ≡ 9) × (y ≡ nodeWord (now ws) n 3) × (frameAt (suc l) ≤ length (now room)) × Stored (now ws) (now room) × Words (program (now ws)) (classCount (now ws)) (now heap) × Memo (now ws) (now memo) ⌝ }
+    ensures { λ r. ⌜ Kept (now (room .entry)) (now (room .exit)) l × (r ≤ 46) × ((r ≡ 0 → ⊥) → Ready (now (ws .entry)) (now (heap .entry)) (now (room .entry)) (now (room .exit)) l n (suc y) 0 (r - 1)) ⌝ }
+{
+    let at = FRAMES + FRAME_WORDS * l;
+    let mut end = n;
+    let mut k = y + 1;
+    let mut steps = 1;
+    while k > 0 {
+        let m = end - 1;
+        let q = argument(ws, nodes, heap, room, memo, m);
+        let h = q.held;
+        if h == 0 {
+            return 0;
+        }
+        k -= 1;
+        room[at + (OPERANDS + k)] = h - 1;
+        steps += q.steps;
+        end -= word_at(ws, nodes, m, 1) as usize;
+    }
+    steps
+}
+
+// A Call whose operands all have their values and whose method is known: on to the body, under the blocks.
+pub fn call(
+    ws: &[u32],
+    lay: Layout,
+    heap: &[u64],
+    room: &mut [u64],
+    memo: &[u64],
+    depth: usize,
+    n: usize,
+    l: usize,
+) -> Leap
+    requires { ⌜ Good (now ws) lay × Inv (now ws) depth (now room) l (Node n) × HeapOk (now ws) (now heap) (getD (now room) searchWord 0) × Memo (now ws) (now memo) × (l + 3 ≤ depth) × (nodeWord (now ws) n 0 ≡ 9) ⌝ }
+    ensures { λ r. ⌜ Lands (now (ws .entry)) depth l (now (heap .entry)) (now (room .entry)) l (Node n) (now (heap .entry)) (now (room .exit)) r ⌝ }
+{
+    let nodes = lay.nodes;
+    let y = word_at(ws, nodes, n, 3) as usize;
+    if depth < l + y {
+        return crate::none();
+    }
+    let s = gather(ws, nodes, heap, room, memo, n, l, y);
+    if s == 0 {
+        return crate::none();
+    }
+    let w = room[FRAMES + FRAME_WORDS * l + OPERANDS];
+    let found = memo::method(heap, memo, n, w);
+    if found == 0 {
+        return crate::none();
+    }
+    let j = found - 1;
+    calls::push_blocks(ws, lay, room, l, n, j, y);
+    crate::at_node(image::method_word(ws, lay, j, 5) as usize, l + y + 1, s)
 }

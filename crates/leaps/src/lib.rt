@@ -102,7 +102,7 @@ pub fn enter_leap(
         0 => enters::new(ws, lay, counts, types, heap, room, n, l),
         2 => enters::leaf(ws, nodes, room, n, l),
         3 => enters::leaf(ws, nodes, room, n, l),
-        9 => none(),
+        9 => enters::call(ws, lay, heap, room, memo, depth, n, l),
         10 => enters::block(ws, nodes, room, n, l),
         1 | 14 => enters::first(room, kind, n, n - 1, l),
         8 | 11 | 15 => enters::first(room, kind, n, enters::before_last(ws, nodes, n), l),

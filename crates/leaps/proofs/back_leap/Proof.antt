@@ -1,18 +1,14 @@
-use borrow.Author.Needs.{needs}
+-- `leaps::back_leap` meets its contract.
 use Rattle.leaps.proofs.back_leap.Statement.{statement}
 use Rattle.room.specs.RoomLaws.{kept-refl}
+use borrow.Author.Needs.{needs}
 use mathlib.Core.Path.{refl}
 use native.Mathlib.Omega.{arith}
 use Rattle.leaps.proofs.back_leap.Tie as tie
-use Rattle.leaps.proofs.back_leap.Reads as reads
-use Rattle.leaps.proofs.back_leap.Lts as lts
-use Rattle.leaps.proofs.none.Reads as none-reads
 
--- src/lib.rt:78:5
 none-requires : tie.Need-none-requires
 none-requires c κs = search needs
 
--- src/lib.rt:65:1
 returns : tie.Need-returns
 returns c = record { few = rw (c .none .ensures .1) (omega arith); landing = rw (c .none .ensures .0) (kept-refl _ _, refl) }
 

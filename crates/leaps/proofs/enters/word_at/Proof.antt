@@ -1,32 +1,25 @@
-use Rattle.image.specs.Nodes.{nodeWord}
+-- `leaps::enters::word_at` meets its contract.
 use Rattle.image.specs.Laws.{begins}
-use borrow.Author.Needs.{needs}
+use Rattle.image.specs.Nodes.{nodeWord}
 use Rattle.leaps.proofs.enters.word_at.Statement.{statement}
+use borrow.Author.Needs.{needs}
 use Rattle.leaps.proofs.enters.word_at.Tie as tie
-use Rattle.leaps.proofs.enters.word_at.Reads as reads
-use Rattle.leaps.proofs.enters.word_at.Lts as lts
 
--- src/enters.rt:17:16
 mul-result : tie.Need-mul-result
 mul-result c = search needs
 
--- src/enters.rt:17:8
 add-result : tie.Need-add-result
 add-result c = search needs
 
--- src/enters.rt:17:8
 add-result-2 : tie.Need-add-result-2
 add-result-2 c = search needs
 
--- src/enters.rt:17:5
 mul-result-2 : tie.Need-mul-result-2
 mul-result-2 c = search needs
 
--- src/enters.rt:17:5
 shared-slice-read-result : tie.Need-shared-slice-read-result
 shared-slice-read-result c = search needs
 
--- src/enters.rt:13:1
 returns : tie.Need-returns
 unfolding nodeWord
 returns c = rw (begins _ _ _ (c .before .pre .0 .nodes-at))
