@@ -20,7 +20,15 @@ use room::OPERANDS;
 
 // Pushes the blocks of a call of method j, from frame i on: the receiver's, and one for each of the y arguments. The first of them
 // takes the Call's own frame, but not the words of the operands.
-fn push_blocks(ws: &[u32], lay: Layout, room: &mut [u64], i: usize, p: usize, j: usize, y: usize)
+pub fn push_blocks(
+    ws: &[u32],
+    lay: Layout,
+    room: &mut [u64],
+    i: usize,
+    p: usize,
+    j: usize,
+    y: usize,
+)
     requires { ⌜ Good (now ws) lay × Callable (now ws) (now room) i j y ⌝ }
     ensures { λ _. ⌜ Pushed (now (ws .entry)) (now (room .entry)) i p j y (now (room .exit)) (suc y) ⌝ }
 {

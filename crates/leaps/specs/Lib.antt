@@ -1,6 +1,10 @@
 -- Turns that take several steps at once.
 pub mod Lands
--- A value that comes back to a frame.
+-- What a node's operands and a value that comes back to a frame promise.
+pub mod Enters
 pub mod Backs
 -- Laws, which a reader need not believe: the checker does.
+pub mod LandsLaws
+pub mod EnterLaps
+pub mod CallLaps
 pub mod BackLaps

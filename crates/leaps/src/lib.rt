@@ -16,6 +16,8 @@ use room::FRAMES;
 
 mod backs;
 
+mod enters;
+
 // What a leap comes to. The word is a node, a value's word, or an address, and with an address the place is told.
 pub struct Leap {
     pub how: u64,
@@ -98,7 +100,18 @@ pub fn enter_leap(
     requires { ⌜ Good (now ws) lay × Rows (now ws) (now counts) (now types) × Inv (now ws) depth (now room) l (Node n) × HeapOk (now ws) (now heap) (getD (now room) searchWord 0) × Memo (now ws) (now memo) × (l + 3 ≤ depth) ⌝ }
     ensures { λ r. ⌜ Lands (now (ws .entry)) depth l (now (heap .entry)) (now (room .entry)) l (Node n) (now (heap .exit)) (now (room .exit)) r ⌝ }
 {
-    none()
+    let nodes = lay.nodes;
+    let kind = enters::word_at(ws, nodes, n, 0);
+    match kind {
+        0 => enters::new(ws, lay, counts, types, heap, room, n, l),
+        2 => enters::leaf(ws, nodes, room, n, l),
+        3 => enters::leaf(ws, nodes, room, n, l),
+        9 => enters::call(ws, lay, heap, room, memo, depth, n, l),
+        10 => enters::block(ws, nodes, room, n, l),
+        1 | 14 => enters::first(room, kind, n, n - 1, l),
+        8 | 11 | 15 => enters::first(room, kind, n, enters::before_last(ws, nodes, n), l),
+        _ => enters::with_quick(ws, nodes, heap, room, memo, kind, n, l),
+    }
 }
 
 // A value comes back to frame i.
