@@ -56,16 +56,6 @@ pub eval-locals : {ws hs room R : List ℕ} {m w k d : ℕ} → Locals room R �
 eval-locals e v =
     record { is-value = v .is-value; leaps = λ D room' l f. v .leaps D room' l (λ x h. f x h ∙ sym (e x h)) }
 
-pub known-deeper : {ws hs room : List ℕ} {m : ℕ} {q : Quick} → Known ws hs room m 0 q → Known ws hs room m 1 q
-known-deeper k =
-    record {
-      few = k .few;
-      eval =
-          λ w e.
-          let v = k .eval w e in
-          record { is-value = v .is-value; leaps = λ D room' l f i h o. v .leaps D room' l f i h (omega arith) };
-    }
-
 pub stored-kept : {ws room R : List ℕ} {l : ℕ} → Stored ws room → Kept room R l → Stored ws R
 stored-kept s k =
     record { long = rw (k .size) (s .long); held-ok = λ x h. rw (k .same x (omega arith)) (s .held-ok x h) }

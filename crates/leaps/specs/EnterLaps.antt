@@ -31,7 +31,8 @@ use Rattle.room.specs.Armed.{armed, armedSeq}
 use Rattle.room.specs.Leads.{Leaps}
 use Rattle.room.specs.LeadsLaws.{leaps-move, leaps-step, leaps-on, leaps-kept}
 use Rattle.quick.specs.declared.Quick.{Quick}
-use Rattle.quick.specs.Known.{Tabled, Stored, Eval, Known}
+use Rattle.quick.specs.Known.{Eval, Known}
+use Rattle.quick.specs.KnownLaws.{kept-back}
 use Rattle.leaps.specs.Lands.{Lands}
 use Rattle.leaps.specs.LandsLaws.{lands-node, lands-value}
 use Rattle.leaps.specs.Enters.{Holds, First, One, Two, Whole, Quickly}
@@ -39,14 +40,6 @@ use Rattle.leaps.specs.Enters.{Holds, First, One, Two, Whole, Quickly}
 and-none : (b : Bool) → (b && false) ≡ false
 and-none true = refl
 and-none false = refl
-
--- what quick operands ask for
-pub tabled : {ws : List ℕ} {lay : Layout} → Good ws lay → Tabled ws (lay .nodes)
-tabled {ws} {lay} g =
-    record { nodes-at = g .lay .nodes-at; within = omega (arith, g .lay .whole, g .lay .node-count); holds = g .nodes }
-
-pub stored : {ws room : List ℕ} {D l : ℕ} {f : Focus} → Inv ws D room l f → Stored ws room
-stored v = record { long = omega (arith, v .long); held-ok = v .fit .held-ok }
 
 -- an answer that holds a value
 pub known-eval : {ws hs room : List ℕ} {m d : ℕ} {q : Quick} → Known ws hs room m d q → (q .held ≡ 0 → ⊥)
@@ -148,9 +141,6 @@ module _ (ws : List ℕ) (n : ℕ) where
   after-first h f = omega (arith, operand-below ws n h 0 (omega (arith, f .count)))
 
 -- rooms that agree below a level
-pub kept-back : {old new : List ℕ} {l : ℕ} → Kept old new l → Kept new old l
-kept-back k = record { size = sym (k .size); same = λ j h. sym (k .same j h) }
-
 pub kept-both : {old new : List ℕ} {l : ℕ} (x w : ℕ) → x < length old → Kept old new l → Kept (set old x w) (set new x w) l
 kept-both {old} {new} {l} x w h k =
     record { size = length-set new x w ∙ k .size ∙ sym (length-set old x w); same = λ j i. go j i (ℕ-discrete j x) }

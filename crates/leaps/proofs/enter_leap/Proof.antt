@@ -1,6 +1,7 @@
 -- `leaps::enter_leap` meets its contract.
 use Rattle.leaps.proofs.enter_leap.Statement.{statement}
-use Rattle.leaps.specs.EnterLaps.{after-first, count-two, first-one, first-two, quickly, stored, tabled}
+use Rattle.leaps.specs.EnterLaps.{after-first, count-two, first-one, first-two, quickly}
+use Rattle.quick.specs.KnownLaws.{stored, tabled}
 use Rattle.room.specs.Nodes.{kind-below}
 use borrow.Author.Needs.{needs}
 use mathlib.Core.Logic.{inr}
@@ -15,10 +16,10 @@ new-requires : tie.Need-new-requires
 new-requires c κs = let p = c .before .before .before .before .before .before .before .before .before .before .pre in (p .0, p .1, p .2 .here, p .2 .fit .long, (sym (c .before .before .before .word-at .ensures) ∙ c .before .before .match .keys1), p .3)
 
 leaf-requires : tie.Need-leaf-requires
-leaf-requires c κs = let p = c .before .before .before .before .before .before .before .before .before .pre in (tabled (p .0), p .2 .here, stored (p .2))
+leaf-requires c κs = let p = c .before .before .before .before .before .before .before .before .before .pre in (tabled (p .0), p .2 .here, stored (p .2 .fit))
 
 leaf-requires-2 : tie.Need-leaf-requires-2
-leaf-requires-2 c κs = let p = c .before .before .before .before .before .before .before .before .before .pre in (tabled (p .0), p .2 .here, stored (p .2))
+leaf-requires-2 c κs = let p = c .before .before .before .before .before .before .before .before .before .pre in (tabled (p .0), p .2 .here, stored (p .2 .fit))
 
 call-requires : tie.Need-call-requires
 call-requires c κs = let p = c .before .before .before .before .before .before .before .before .before .before .pre in (p .0, p .2, p .3, p .4, p .5, (sym (c .before .before .before .word-at .ensures) ∙ c .before .before .match .keys4))
@@ -39,7 +40,7 @@ first-requires-2 : tie.Need-first-requires-2
 first-requires-2 c κs = let p = c .before .before .before .before .before .before .before .before .before .before .pre in omega (arith, p .2 .long, p .5)
 
 with-quick-requires : tie.Need-with-quick-requires
-with-quick-requires c κs = let p = c .before .before .before .before .before .before .before .before .before .before .pre in let r = c .before .before .match .rest in (tabled (p .0), p .2 .here, omega (arith, p .2 .long, p .5), sym (c .before .before .before .word-at .ensures), quickly _ (rw (c .before .before .before .word-at .ensures) (kind-below _ _ (p .0 .nodes _ (p .2 .here)))) (r .0 .0 .0 .0 .0 .0 .1) (r .0 .0 .0 .0 .0 .1) (r .0 .0 .0 .0 .1) (r .0 .0 .0 .1) (r .0 .0 .1) (r .0 .1) (r .1), stored (p .2), p .3 .words, p .4)
+with-quick-requires c κs = let p = c .before .before .before .before .before .before .before .before .before .before .pre in let r = c .before .before .match .rest in (tabled (p .0), p .2 .here, omega (arith, p .2 .long, p .5), sym (c .before .before .before .word-at .ensures), quickly _ (rw (c .before .before .before .word-at .ensures) (kind-below _ _ (p .0 .nodes _ (p .2 .here)))) (r .0 .0 .0 .0 .0 .0 .1) (r .0 .0 .0 .0 .0 .1) (r .0 .0 .0 .0 .1) (r .0 .0 .0 .1) (r .0 .0 .1) (r .0 .1) (r .1), stored (p .2 .fit), p .3 .words, p .4)
 
 same-length : tie.Need-same-length
 same-length c = search needs

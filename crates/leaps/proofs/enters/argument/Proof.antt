@@ -1,14 +1,15 @@
 -- `leaps::enters::argument` meets its contract.
 use Rattle.leaps.proofs.enters.argument.Statement.{statement}
-use Rattle.leaps.specs.CallLaps.{known-deeper}
+use Rattle.quick.specs.KnownLaws.{known-deeper}
 use borrow.Author.Needs.{needs}
+use native.Mathlib.Omega.{arith}
 use Rattle.leaps.proofs.enters.argument.Tie as tie
 
 leaf-requires : tie.Need-leaf-requires
 leaf-requires c κs = search needs
 
 returns : tie.Need-returns
-returns c = known-deeper (c .before .leaf .ensures _)
+returns c = known-deeper _ (c .before .before .before .before .before .before .pre .0 .holds) _ _ (omega arith) (c .before .leaf .ensures _)
 
 shallow-requires : tie.Need-shallow-requires
 shallow-requires c κs = search needs

@@ -2,7 +2,7 @@
 use Rattle.calls.specs.CallLaws.{body-node}
 use Rattle.leaps.proofs.enters.call.Statement.{statement}
 use Rattle.leaps.specs.CallLaps.{call-lands, callable, operand-word}
-use Rattle.leaps.specs.EnterLaps.{stored, tabled}
+use Rattle.quick.specs.KnownLaws.{stored, tabled}
 use Rattle.leaps.specs.LandsLaws.{lands-none, lands-still}
 use Rattle.room.specs.Nodes.{call-count}
 use borrow.Author.Needs.{needs}
@@ -25,7 +25,7 @@ returns : tie.Need-returns
 returns c = lands-still (c .none .ensures)
 
 gather-requires : tie.Need-gather-requires
-gather-requires c κs = let p = c .before .before .before .before .before .before .before .pre in (tabled (p .0), p .1 .here, p .5, c .before .before .word-at .ensures, omega (arith, p .1 .long, p .4), stored (p .1), p .2 .words, p .3)
+gather-requires c κs = let p = c .before .before .before .before .before .before .before .pre in (tabled (p .0), p .1 .here, p .5, c .before .before .word-at .ensures, omega (arith, p .1 .long, p .4), stored (p .1 .fit), p .2 .words, p .3)
 
 none-requires-2 : tie.Need-none-requires-2
 none-requires-2 c κs = search needs

@@ -1,7 +1,7 @@
 -- `leaps::enters::new` meets its contract.
 use Rattle.enter.specs.NewLaws.{new-opens, new-steps}
 use Rattle.leaps.proofs.enters.new.Statement.{statement}
-use Rattle.leaps.specs.EnterLaps.{tabled}
+use Rattle.quick.specs.KnownLaws.{tabled}
 use Rattle.leaps.specs.LandsLaws.{lands-still, lands-value}
 use Rattle.objects.specs.Made.{Opens}
 use Rattle.room.specs.LeadsLaws.{leaps-step}
