@@ -15,7 +15,6 @@ use room::FRAME_WORDS;
 use room::FRAMES;
 
 mod backs;
-
 mod enters;
 
 // What a leap comes to. The word is a node, a value's word, or an address, and with an address the place is told.

@@ -231,8 +231,8 @@ fn unwinds(
     at_thrown(a, p, l, left)
 }
 
-// Where a leap has come to, things go on outward: a value comes back, a thrown address goes out.
-fn outward(
+// Where a leap has come to, a value comes back.
+fn returned(
     ws: &[u32],
     lay: Layout,
     heap: &mut [u64],
@@ -246,38 +246,41 @@ fn outward(
     ensures { λ r. ⌜ Reaches (now (ws .entry)) depth left (now (heap .entry)) (now (room .entry)) (e .level) (focusAt (e .how) (e .word) (e .place)) (now (heap .exit)) (now (room .exit)) r ⌝ }
 {
     if e.how == VALUE {
-        let r = backs(ws, lay, heap, room, memo, depth, e.word, e.level, left);
-        if r.how == THROWN {
-            return unwinds(
-                ws,
-                lay,
-                heap,
-                room,
-                memo,
-                depth,
-                r.word as usize,
-                r.place,
-                r.level,
-                r.left,
-            );
-        }
-        return r;
-    }
-    if e.how == THROWN {
-        return unwinds(
-            ws,
-            lay,
-            heap,
-            room,
-            memo,
-            depth,
-            e.word as usize,
-            e.place,
-            e.level,
-            left,
-        );
+        return backs(ws, lay, heap, room, memo, depth, e.word, e.level, left);
     }
     landed(e, left)
+}
+
+// Then a thrown address goes out.
+fn outward(
+    ws: &[u32],
+    lay: Layout,
+    heap: &mut [u64],
+    room: &mut [u64],
+    memo: &[u64],
+    depth: usize,
+    e: Leap,
+    left: u64,
+) -> Reached
+    requires { ⌜ Good (now ws) lay × Inv (now ws) depth (now room) (e .level) (focusAt (e .how) (e .word) (e .place)) × HeapOk (now ws) (now heap) (getD (now room) searchWord 0) × Memo (now ws) (now memo) × (e .how ≡ 2 → e .level ≤ depth) ⌝ }
+    ensures { λ r. ⌜ Reaches (now (ws .entry)) depth left (now (heap .entry)) (now (room .entry)) (e .level) (focusAt (e .how) (e .word) (e .place)) (now (heap .exit)) (now (room .exit)) r ⌝ }
+{
+    let r = returned(ws, lay, heap, room, memo, depth, e, left);
+    if r.how != THROWN {
+        return r;
+    }
+    unwinds(
+        ws,
+        lay,
+        heap,
+        room,
+        memo,
+        depth,
+        r.word as usize,
+        r.place,
+        r.level,
+        r.left,
+    )
 }
 
 // Leaps from a node on, as long as there are any.
