@@ -4,12 +4,12 @@
 //     run IMAGE HEAP INPUTS STEPS DEPTH [OUT]
 //                                  the run of an image within these limits; the heap after it in OUT
 //     demo                         a small example, with its words
-// The answer is a line `number N place P`, for a run with ` count C value V`, and a line that says
-// what that means. What goes wrong is one line that begins `error: `.
+// The answer is a line `number N place P`, for a run with ` count C value V`, a line that says
+// what that means, and often one with the rule. What goes wrong is one line that begins `error: `.
 mod demo;
+mod errors;
 mod file;
 mod runs;
-mod say;
 
 use runs::Limits;
 use text::Fed;
@@ -18,7 +18,7 @@ fn check_file() {
     let mut path = io::buffer();
     let n = os::arg(2, &mut path);
     if os::errno() != 0 {
-        say::usage();
+        errors::usage();
         return;
     }
     file::check(&path[..n]);
@@ -37,7 +37,7 @@ fn conform_files() {
         file::conform(&image[..n], &heap[..h], &inputs[..i]);
         return;
     }
-    say::usage();
+    errors::usage();
 }
 
 // What is read of a decimal number.
@@ -51,7 +51,7 @@ fn number_at(i: usize) -> Given {
     let n = os::arg(i, &mut text);
     let g = number_of(&text[..n]);
     if !g.is_number {
-        say::error(&text[..n], b": this is no decimal number below 2^64");
+        errors::with(&text[..n], b": this is no decimal number below 2^64");
     }
     g
 }
@@ -98,7 +98,7 @@ fn run_within(count: usize) {
     let mut out = io::buffer();
     let o = os::arg(7, &mut out);
     if count == 8 && o == 0 {
-        say::usage();
+        errors::usage();
         return;
     }
     run_files(l, &out[..o]);
@@ -117,7 +117,7 @@ fn run_files(l: Limits, out: &[u8]) {
         runs::run(&image[..n], &heap[..h], &inputs[..i], l, out);
         return;
     }
-    say::usage();
+    errors::usage();
 }
 
 fn obey(command: &[u8], count: usize) {
@@ -137,7 +137,7 @@ fn obey(command: &[u8], count: usize) {
         demo::show();
         return;
     }
-    say::usage();
+    errors::usage();
 }
 
 fn main() {
