@@ -20,6 +20,22 @@ pub fn check(path: &[u8]) {
     say::checked(image_check::check_answer(&image[..words.count]));
 }
 
+// The answer first, then what the image holds.
+pub fn explain(path: &[u8]) {
+    let mut image = [0u32; 131072];
+    let words = take_image(path, &mut image);
+    if words.has_failed {
+        return;
+    }
+    explain_image(&image[..words.count]);
+}
+
+fn explain_image(image: &[u32]) {
+    let a = image_check::check_answer(image);
+    say::checked(a);
+    explain::image(image, a);
+}
+
 pub fn conform(image_path: &[u8], heap_path: &[u8], inputs_path: &[u8]) {
     let mut image = [0u32; 131072];
     let words = take_image(image_path, &mut image);

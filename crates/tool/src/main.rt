@@ -1,5 +1,6 @@
 // The checks of one image, for a person to read. Files hold words, little end first.
 //     check FILE                   the image in a file of 32-bit words
+//     explain FILE                 the same, and then its classes and bodies in words
 //     conform IMAGE HEAP INPUTS    whether a heap and inputs, files of 64-bit words, fit an image
 //     run IMAGE HEAP INPUTS STEPS DEPTH [OUT]
 //                                  the run of an image within these limits; the heap after it in OUT
@@ -22,6 +23,16 @@ fn check_file() {
         return;
     }
     file::check(&path[..n]);
+}
+
+fn explain_file() {
+    let mut path = io::buffer();
+    let n = os::arg(2, &mut path);
+    if os::errno() != 0 {
+        errors::usage();
+        return;
+    }
+    file::explain(&path[..n]);
 }
 
 fn conform_files() {
@@ -123,6 +134,10 @@ fn run_files(l: Limits, out: &[u8]) {
 fn obey(command: &[u8], count: usize) {
     if count == 3 && check::same(command, b"check") {
         check_file();
+        return;
+    }
+    if count == 3 && check::same(command, b"explain") {
+        explain_file();
         return;
     }
     if count == 5 && check::same(command, b"conform") {

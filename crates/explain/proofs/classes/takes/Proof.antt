@@ -1,0 +1,69 @@
+-- `explain::classes::takes` meets its contract.
+use Rattle.explain.proofs.classes.takes.Statement.{statement}
+use borrow.Author.Needs.{needs}
+use Rattle.explain.proofs.classes.takes.Tie as tie
+
+abbrev Inv-loop : tie.InvT-loop
+Inv-loop ws from count i₀ left₀ t7 i left = Unit {0}
+
+abbrev μ-loop : tie.MeasureT-loop
+μ-loop ws from count i₀ left₀ t7 i left = left
+
+slice-aggregate-text : tie.Need-slice-aggregate-text Inv-loop μ-loop
+slice-aggregate-text c = search needs
+
+text-requires : tie.Need-text-requires Inv-loop μ-loop
+text-requires c κs = search needs
+
+loop-holds : tie.Need-loop-holds Inv-loop μ-loop
+loop-holds c = search needs
+
+word-requires : tie.Need-word-requires Inv-loop μ-loop
+word-requires c κs = search needs
+
+type-named-requires : tie.Need-type-named-requires Inv-loop μ-loop
+type-named-requires c κs = search needs
+
+comma-requires : tie.Need-comma-requires Inv-loop μ-loop
+comma-requires c κs = search needs
+
+next-requires : tie.Need-next-requires Inv-loop μ-loop
+next-requires c κs = search needs
+
+sub-left : tie.Need-sub-left Inv-loop μ-loop
+sub-left c = search needs
+
+loop-less : tie.Need-loop-less Inv-loop μ-loop
+loop-less c = search needs
+
+loop-again : tie.Need-loop-again Inv-loop μ-loop
+loop-again c = search needs
+
+slice-aggregate-text-2 : tie.Need-slice-aggregate-text-2 Inv-loop μ-loop
+slice-aggregate-text-2 c = search needs
+
+text-requires-2 : tie.Need-text-requires-2 Inv-loop μ-loop
+text-requires-2 c κs = search needs
+
+returns : tie.Need-returns Inv-loop μ-loop
+returns c = search needs
+
+pub takes-spec : {M : Type 1} → statement M
+takes-spec =
+    tie.close
+    (tie.spec
+    Inv-loop
+    μ-loop
+    slice-aggregate-text
+    text-requires
+    loop-holds
+    word-requires
+    type-named-requires
+    comma-requires
+    next-requires
+    sub-left
+    loop-less
+    loop-again
+    slice-aggregate-text-2
+    text-requires-2
+    returns)
