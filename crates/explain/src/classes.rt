@@ -61,6 +61,7 @@ fn methods(ws: &[u32], c: u32, a: Answer) {
 fn method(ws: &[u32], i: u32, a: Answer) {
     say::at(b"  method ", i as u64);
     say::at(b": name ", records::word(ws, records::METHODS, i, 1) as u64);
+    say::text(b", ");
     let from = records::word(ws, records::METHODS, i, 3);
     takes(ws, from, records::word(ws, records::METHODS, i, 4));
     names::type_named(records::word(ws, records::METHODS, i, 2));
@@ -69,7 +70,7 @@ fn method(ws: &[u32], i: u32, a: Answer) {
 
 // Main is counted after the last method. Its inputs take the last type words, and its type is its body's.
 fn main(ws: &[u32], a: Answer) {
-    say::text(b"main");
+    say::text(b"main: ");
     let inputs = records::trailer(ws, 6);
     takes(
         ws,
@@ -89,28 +90,36 @@ fn behind(count: u32, others: u32) -> u32 {
     count - others
 }
 
-// The types of so many parameters from a type word on.
+// The types of so many parameters from a type word on, each with the variable that it is.
 fn takes(ws: &[u32], from: u32, count: u32) {
-    say::text(b", takes (");
-    let mut i = from;
-    let mut left = count;
-    while left > 0 {
-        names::type_named(records::word(ws, records::TYPES, i, 0));
-        comma(left);
-        i = next(i);
-        left -= 1;
+    say::text(b"takes (");
+    let mut i = 0;
+    while i < count {
+        parameter(ws, from, i);
+        i += 1;
     }
     say::text(b"), gives ");
 }
 
-fn next(i: u32) -> u32 {
-    if i < records::MANY { i + 1 } else { i }
-}
-
-fn comma(left: u32) {
-    if left > 1 {
+// Variables are counted from 1, since 0 is `this`.
+fn parameter(ws: &[u32], from: u32, i: u32) {
+    if i > 0 {
         say::text(b", ");
     }
+    say::number(i as u64 + 1);
+    say::text(b": ");
+    names::type_named(records::word(ws, records::TYPES, further(from, i), 0));
+}
+
+// The type words are far fewer than would make this sum too large.
+fn further(from: u32, i: u32) -> u32 {
+    if records::MANY < from {
+        return from;
+    }
+    if records::MANY < i {
+        return from;
+    }
+    from + i
 }
 
 // The rest of the line of method i, and its body.

@@ -127,15 +127,15 @@ fn line(ws: &[u32], n: u32, level: u64, a: Answer) {
     names::end(a, records::NODES, n);
 }
 
-// Two blanks a level, and six more for what is above the tree.
+// Two blanks a level, and four more, since the tree stands below a method.
 fn indent(level: u64) {
     if MOST_INDENTED < level {
-        blanks(MOST_INDENTED + 3);
+        blanks(MOST_INDENTED + 2);
         say::at(b"(level ", level);
         say::text(b") ");
         return;
     }
-    blanks(level + 3);
+    blanks(level + 2);
 }
 
 // So many pairs of blanks, 63 at most.

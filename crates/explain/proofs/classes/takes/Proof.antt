@@ -1,13 +1,14 @@
 -- `explain::classes::takes` meets its contract.
+use Prim.Native.Nat.{_-_}
 use Rattle.explain.proofs.classes.takes.Statement.{statement}
 use borrow.Author.Needs.{needs}
 use Rattle.explain.proofs.classes.takes.Tie as tie
 
 abbrev Inv-loop : tie.InvT-loop
-Inv-loop ws from count i₀ left₀ t7 i left = Unit {0}
+Inv-loop ws from count i₀ t6 i = Unit {0}
 
 abbrev μ-loop : tie.MeasureT-loop
-μ-loop ws from count i₀ left₀ t7 i left = left
+μ-loop ws from count i₀ t6 i = count - i
 
 slice-aggregate-text : tie.Need-slice-aggregate-text Inv-loop μ-loop
 slice-aggregate-text c = search needs
@@ -18,20 +19,11 @@ text-requires c κs = search needs
 loop-holds : tie.Need-loop-holds Inv-loop μ-loop
 loop-holds c = search needs
 
-word-requires : tie.Need-word-requires Inv-loop μ-loop
-word-requires c κs = search needs
+parameter-requires : tie.Need-parameter-requires Inv-loop μ-loop
+parameter-requires c κs = search needs
 
-type-named-requires : tie.Need-type-named-requires Inv-loop μ-loop
-type-named-requires c κs = search needs
-
-comma-requires : tie.Need-comma-requires Inv-loop μ-loop
-comma-requires c κs = search needs
-
-next-requires : tie.Need-next-requires Inv-loop μ-loop
-next-requires c κs = search needs
-
-sub-left : tie.Need-sub-left Inv-loop μ-loop
-sub-left c = search needs
+add-i : tie.Need-add-i Inv-loop μ-loop
+add-i c = search needs
 
 loop-less : tie.Need-loop-less Inv-loop μ-loop
 loop-less c = search needs
@@ -57,11 +49,8 @@ takes-spec =
     slice-aggregate-text
     text-requires
     loop-holds
-    word-requires
-    type-named-requires
-    comma-requires
-    next-requires
-    sub-left
+    parameter-requires
+    add-i
     loop-less
     loop-again
     slice-aggregate-text-2
