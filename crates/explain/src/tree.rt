@@ -5,7 +5,8 @@ use crate::names;
 use crate::records;
 use order::Answer;
 
-// The nodes that wait for their lines stand in a stack. Each is its number and so many times its level.
+// The nodes that wait for their lines are a stack. A node waits as one number: its level times this, and
+// its own number.
 const NODE: u64 = 4096;
 
 const MOST_WAITING: usize = 4096;
