@@ -11,29 +11,22 @@ pub struct Taken {
     pub has_failed: bool,
 }
 
-pub fn check(path: &[u8]) {
+pub fn check(path: &[u8], explains: bool) {
     let mut image = [0u32; 131072];
     let words = take_image(path, &mut image);
     if words.has_failed {
         return;
     }
-    say::checked(image_check::check_answer(&image[..words.count]));
+    check_image(&image[..words.count], explains);
 }
 
-// The answer first, then what the image holds.
-pub fn explain(path: &[u8]) {
-    let mut image = [0u32; 131072];
-    let words = take_image(path, &mut image);
-    if words.has_failed {
-        return;
-    }
-    explain_image(&image[..words.count]);
-}
-
-fn explain_image(image: &[u32]) {
+// The answer first, then, where that is asked for, what the image holds.
+fn check_image(image: &[u32], explains: bool) {
     let a = image_check::check_answer(image);
     say::checked(a);
-    explain::image(image, a);
+    if explains {
+        explain::image(image, a);
+    }
 }
 
 pub fn conform(image_path: &[u8], heap_path: &[u8], inputs_path: &[u8]) {

@@ -15,24 +15,14 @@ mod runs;
 use runs::Limits;
 use text::Fed;
 
-fn check_file() {
+fn check_file(explains: bool) {
     let mut path = io::buffer();
     let n = os::arg(2, &mut path);
     if os::errno() != 0 {
         errors::usage();
         return;
     }
-    file::check(&path[..n]);
-}
-
-fn explain_file() {
-    let mut path = io::buffer();
-    let n = os::arg(2, &mut path);
-    if os::errno() != 0 {
-        errors::usage();
-        return;
-    }
-    file::explain(&path[..n]);
+    file::check(&path[..n], explains);
 }
 
 fn conform_files() {
@@ -133,11 +123,11 @@ fn run_files(l: Limits, out: &[u8]) {
 
 fn obey(command: &[u8], count: usize) {
     if count == 3 && check::same(command, b"check") {
-        check_file();
+        check_file(false);
         return;
     }
     if count == 3 && check::same(command, b"explain") {
-        explain_file();
+        check_file(true);
         return;
     }
     if count == 5 && check::same(command, b"conform") {
