@@ -43,38 +43,47 @@ struct muthaveri_answer {
     uint64_t value;
 };
 
-/* The numbers. After the dash: what `place` is, where it is not 0. */
+/* The numbers, in the words of docs/NUMBERS.md. After the dash: what `place` is, where it is not 0. */
 enum {
+    /* from muthaveri_check and muthaveri_conform */
     MUTHAVERI_ACCEPTED = 0,         /* nothing is broken */
 
+    /* from all three */
     MUTHAVERI_FORMAT = 1,           /* fewer than 8 words, or another format */
-    MUTHAVERI_TRAILER = 2,          /* a trailer word that does not fit the image - the trailer word */
-    MUTHAVERI_CEILING = 3,          /* a section, or main's inputs, over the ceiling - its trailer word */
-    MUTHAVERI_CLASS = 4,            /* a class record, or too few classes - the class, or the class count */
-    MUTHAVERI_FIELD = 5,            /* a field record - the record */
-    MUTHAVERI_METHOD = 6,           /* a method record - the record */
-    MUTHAVERI_TYPE_WORD = 7,        /* a type word - the word's number among them */
-    MUTHAVERI_NODE = 8,             /* a node record - the node */
-    MUTHAVERI_BODIES = 9,           /* bodies that do not fill the node table - the method, or the method count for main */
-    MUTHAVERI_FIELDS_ABOVE = 10,    /* a class with more than 15 fields, those above it counted - the class */
-    MUTHAVERI_OVERRIDE = 11,        /* check: a method that overrides badly - the method */
-    MUTHAVERI_TYPING = 12,          /* check: a node without a type, or a body that does not fit its result - the node */
-    MUTHAVERI_UNSET = 13,           /* check: a variable that is read where it is not surely set - the node */
+    MUTHAVERI_TRAILER = 2,          /* a trailer word that does not fit the image - trailer word */
+    MUTHAVERI_CEILING = 3,          /* a section, or main's inputs, over the ceiling - trailer word */
+    MUTHAVERI_CLASS = 4,            /* a class record that is broken or missing - class, or the class count where there are too few */
+    MUTHAVERI_FIELD = 5,            /* a broken field record - field */
+    MUTHAVERI_METHOD = 6,           /* a broken method record - method */
+    MUTHAVERI_TYPE_WORD = 7,        /* a broken type word - type word */
+    MUTHAVERI_NODE = 8,             /* a broken node record - node */
+    MUTHAVERI_BODIES = 9,           /* bodies that do not fill the node table - method, or the method count for main */
+    MUTHAVERI_FIELDS_ABOVE = 10,    /* a class with more than 15 fields, those above it counted - class */
 
-    MUTHAVERI_HEAP_LENGTH = 14,     /* conform, run: not 3 to 4,096 slots of 16 words */
-    MUTHAVERI_HEAP_WORD = 15,       /* conform, run: a word that no heap of this image has there - the word */
-    MUTHAVERI_INPUT = 16,           /* conform, run: too few or too many inputs, or one that is no value - the input */
-    MUTHAVERI_HEAP_TYPE = 17,       /* conform: a heap word that does not fit its type - the word */
-    MUTHAVERI_INPUT_TYPE = 18,      /* conform: an input that does not fit its type - the input */
+    /* from muthaveri_check */
+    MUTHAVERI_OVERRIDE = 11,        /* a method that overrides badly - method */
+    MUTHAVERI_TYPING = 12,          /* a node without a type, or a body whose type does not fit the result - node */
+    MUTHAVERI_UNSET = 13,           /* a variable that is read where it is not surely set - node */
 
-    MUTHAVERI_DEPTH = 19,           /* run: a depth limit outside 1 to 1,024 */
-    MUTHAVERI_ROOM = 20,            /* run: fewer words of room than the depth limit asks for */
+    /* from muthaveri_conform and muthaveri_run */
+    MUTHAVERI_HEAP_LENGTH = 14,     /* a heap of the wrong length */
+    MUTHAVERI_HEAP_WORD = 15,       /* a heap word that no heap of this image has there - heap word */
+    MUTHAVERI_INPUT = 16,           /* a wrong number of inputs, or an input that is no value - input, or main's input count where the number is wrong */
 
-    MUTHAVERI_RETURNED = 30,        /* main returned `value` */
-    MUTHAVERI_THREW = 31,           /* main threw the object at the address `value` */
+    /* from muthaveri_conform */
+    MUTHAVERI_HEAP_TYPE = 17,       /* a heap word that does not fit its type - heap word */
+    MUTHAVERI_INPUT_TYPE = 18,      /* an input that does not fit its type - input */
+
+    /* from muthaveri_run */
+    MUTHAVERI_DEPTH = 19,           /* a depth limit outside 1 to 1024 */
+    MUTHAVERI_ROOM = 20,            /* too little room for the depth limit */
+
+    /* from muthaveri_run, as ends; 34 never after two answers of 0, as said above */
+    MUTHAVERI_RETURNED = 30,        /* main returned a value */
+    MUTHAVERI_THREW = 31,           /* main threw an object */
     MUTHAVERI_OUT_OF_STEPS = 32,    /* the limit of steps was reached */
-    MUTHAVERI_TOO_DEEP = 33,        /* the next step lies too deep */
-    MUTHAVERI_STUCK = 34            /* a step that cannot be taken - the node; never after two answers of 0, as said above */
+    MUTHAVERI_TOO_DEEP = 33,        /* the next step lies deeper than the depth limit allows */
+    MUTHAVERI_STUCK = 34            /* no step can be taken - node */
 };
 
 /* Limits, in words but for the depth. */

@@ -213,36 +213,36 @@ static bool save(const char *name, const struct box *b)
     return good;
 }
 
-/* What a number says. */
+/* What a number says, in the words of docs/NUMBERS.md. */
 static const char *meaning(uint64_t number)
 {
     switch (number) {
-    case MUTHAVERI_ACCEPTED: return "accepted";
+    case MUTHAVERI_ACCEPTED: return "nothing is broken";
     case MUTHAVERI_FORMAT: return "fewer than 8 words, or another format";
-    case MUTHAVERI_TRAILER: return "a trailer word does not fit the image";
+    case MUTHAVERI_TRAILER: return "a trailer word that does not fit the image";
     case MUTHAVERI_CEILING: return "a section, or main's inputs, over the ceiling";
-    case MUTHAVERI_CLASS: return "a class record is broken, or there are too few";
-    case MUTHAVERI_FIELD: return "a field record is broken";
-    case MUTHAVERI_METHOD: return "a method record is broken";
-    case MUTHAVERI_TYPE_WORD: return "a type word is broken";
-    case MUTHAVERI_NODE: return "a node record is broken";
-    case MUTHAVERI_BODIES: return "bodies do not fill the node table";
-    case MUTHAVERI_FIELDS_ABOVE: return "a class has more than 15 fields";
-    case MUTHAVERI_OVERRIDE: return "a method overrides badly";
-    case MUTHAVERI_TYPING: return "a node has no type, or a body does not fit its result";
-    case MUTHAVERI_UNSET: return "a variable is read where it is not surely set";
-    case MUTHAVERI_HEAP_LENGTH: return "the heap has a wrong length";
-    case MUTHAVERI_HEAP_WORD: return "a heap word is no such word";
-    case MUTHAVERI_INPUT: return "a wrong number of inputs, or an input is no value";
-    case MUTHAVERI_HEAP_TYPE: return "a heap word does not fit its type";
-    case MUTHAVERI_INPUT_TYPE: return "an input does not fit its type";
-    case MUTHAVERI_DEPTH: return "the depth limit is not 1 to 1024";
-    case MUTHAVERI_ROOM: return "too little room";
-    case MUTHAVERI_RETURNED: return "main returned";
-    case MUTHAVERI_THREW: return "main threw the object at";
-    case MUTHAVERI_OUT_OF_STEPS: return "out of steps";
-    case MUTHAVERI_TOO_DEEP: return "too deep";
-    case MUTHAVERI_STUCK: return "stuck";
+    case MUTHAVERI_CLASS: return "a class record that is broken or missing";
+    case MUTHAVERI_FIELD: return "a broken field record";
+    case MUTHAVERI_METHOD: return "a broken method record";
+    case MUTHAVERI_TYPE_WORD: return "a broken type word";
+    case MUTHAVERI_NODE: return "a broken node record";
+    case MUTHAVERI_BODIES: return "bodies that do not fill the node table";
+    case MUTHAVERI_FIELDS_ABOVE: return "a class with more than 15 fields, those above it counted";
+    case MUTHAVERI_OVERRIDE: return "a method that overrides badly";
+    case MUTHAVERI_TYPING: return "a node without a type, or a body whose type does not fit the result";
+    case MUTHAVERI_UNSET: return "a variable that is read where it is not surely set";
+    case MUTHAVERI_HEAP_LENGTH: return "a heap of the wrong length";
+    case MUTHAVERI_HEAP_WORD: return "a heap word that no heap of this image has there";
+    case MUTHAVERI_INPUT: return "a wrong number of inputs, or an input that is no value";
+    case MUTHAVERI_HEAP_TYPE: return "a heap word that does not fit its type";
+    case MUTHAVERI_INPUT_TYPE: return "an input that does not fit its type";
+    case MUTHAVERI_DEPTH: return "a depth limit outside 1 to 1024";
+    case MUTHAVERI_ROOM: return "too little room for the depth limit";
+    case MUTHAVERI_RETURNED: return "main returned a value";
+    case MUTHAVERI_THREW: return "main threw an object";
+    case MUTHAVERI_OUT_OF_STEPS: return "the limit of steps was reached";
+    case MUTHAVERI_TOO_DEEP: return "the next step lies deeper than the depth limit allows";
+    case MUTHAVERI_STUCK: return "no step can be taken";
     default: return "a number that this box does not know";
     }
 }
@@ -250,12 +250,12 @@ static const char *meaning(uint64_t number)
 static void show_value(uint64_t word)
 {
     switch (muthaveri_tag(word)) {
-    case MUTHAVERI_UNIT: printf(" unit"); break;
-    case MUTHAVERI_NULL: printf(" null"); break;
-    case MUTHAVERI_BOOL: printf(muthaveri_payload(word) != 0 ? " true" : " false"); break;
-    case MUTHAVERI_INTEGER: printf(" %" PRId32, muthaveri_int32(word)); break;
-    case MUTHAVERI_ADDRESS: printf(" address %" PRIu32, muthaveri_payload(word)); break;
-    default: printf(" a word that is no value"); break;
+    case MUTHAVERI_UNIT: printf(": unit"); break;
+    case MUTHAVERI_NULL: printf(": null"); break;
+    case MUTHAVERI_BOOL: printf(muthaveri_payload(word) != 0 ? ": true" : ": false"); break;
+    case MUTHAVERI_INTEGER: printf(": %" PRId32, muthaveri_int32(word)); break;
+    case MUTHAVERI_ADDRESS: printf(": address %" PRIu32, muthaveri_payload(word)); break;
+    default: printf(": a word that is no value"); break;
     }
 }
 
@@ -266,7 +266,7 @@ static void show(const char *question, struct muthaveri_answer a)
     if (a.number == MUTHAVERI_RETURNED || a.number == MUTHAVERI_THREW)
         show_value(a.value);
     if (a.number >= MUTHAVERI_RETURNED)
-        printf(" after %" PRIu64 " steps", a.count);
+        printf(", after %" PRIu64 " steps", a.count);
     putchar('\n');
 }
 

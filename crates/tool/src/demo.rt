@@ -2,7 +2,6 @@
 // is `(New 4).9()`.
 ghost use Prim.Native.Nat.{_<_, _≤_};
 ghost use lib.ListN.{length};
-use crate::say;
 
 const EXAMPLE: [u32; 38] = [
     // classes 0 to 4, each with its superclass
@@ -56,7 +55,7 @@ const EXAMPLE: [u32; 38] = [
 pub fn show() {
     let words = EXAMPLE;
     sections(&words);
-    say::answer(image_check::check_answer(&words));
+    say::checked(image_check::check_answer(&words));
     say::text(b"and its run, on a heap of four slots, at most 100 steps and 8 levels deep:\n");
     run_example(&words);
 }
@@ -70,7 +69,8 @@ fn run_example(ws: &[u32]) {
     let none: [u64; 0] = [];
     let mut room = [0u64; 288];
     let ran = run::run(ws, &mut heap, &none, &mut room, 100, 8);
-    say::ran(run::numbers_of(ran));
+    let t = run::numbers_of(ran);
+    say::ran(t.number, t.place, t.count, t.value);
 }
 
 fn sections(ws: &[u32; 38]) {

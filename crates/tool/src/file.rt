@@ -3,7 +3,7 @@ ghost use mathlib.Core.Path.{_≡_};
 ghost use Prim.Native.Nat.{_<_};
 ghost use lib.ListN.{length};
 ghost use Rattle.text.specs.Words.{Counts};
-use crate::say;
+use crate::errors;
 
 // How many bytes or words are at the start of a buffer, and whether an error was written instead.
 pub struct Taken {
@@ -11,13 +11,22 @@ pub struct Taken {
     pub has_failed: bool,
 }
 
-pub fn check(path: &[u8]) {
+pub fn check(path: &[u8], explains: bool) {
     let mut image = [0u32; 131072];
     let words = take_image(path, &mut image);
     if words.has_failed {
         return;
     }
-    say::answer(image_check::check_answer(&image[..words.count]));
+    check_image(&image[..words.count], explains);
+}
+
+// The answer first, then, where that is asked for, what the image holds.
+fn check_image(image: &[u32], explains: bool) {
+    let a = image_check::check_answer(image);
+    say::checked(a);
+    if explains {
+        explain::image(image, a);
+    }
 }
 
 pub fn conform(image_path: &[u8], heap_path: &[u8], inputs_path: &[u8]) {
@@ -40,7 +49,7 @@ fn conform_image(image: &[u32], heap_path: &[u8], inputs_path: &[u8]) {
     if values.has_failed {
         return;
     }
-    say::conformity(conform::conformity(image, &heap[..words.count], &inputs[..values.count]));
+    say::conformed(conform::conformity(image, &heap[..words.count], &inputs[..values.count]));
 }
 
 // The bytes of each file. There is room for one more than it may have, so that a longer file shows.
@@ -113,14 +122,14 @@ fn take(path: &[u8], space: &mut [u8], width: usize) -> Taken
 
 fn not_opened(path: &[u8], errno: i32) {
     if errno == libc::ENOENT {
-        say::error(path, b": there is no such file");
+        errors::with(path, b": there is no such file");
         return;
     }
     if errno == libc::EACCES {
-        say::error(path, b": the file may not be read");
+        errors::with(path, b": the file may not be read");
         return;
     }
-    say::error(path, b": the file cannot be opened");
+    errors::with(path, b": the file cannot be opened");
 }
 
 // What does not fill the space ends the file or tells of a failure: one more read shows which.
@@ -139,15 +148,15 @@ fn is_whole(path: &[u8], bytes: Taken, room: usize, width: usize) -> bool
     requires { ⌜ 0 < width ⌝ }
 {
     if bytes.has_failed {
-        say::error(path, b": the file cannot be read");
+        errors::with(path, b": the file cannot be read");
         return false;
     }
     if bytes.count == room {
-        say::too_long(path, room / width, width);
+        errors::too_long(path, room / width, width);
         return false;
     }
     if bytes.count % width != 0 {
-        say::no_multiple(path, width);
+        errors::no_multiple(path, width);
         return false;
     }
     true

@@ -1,27 +1,28 @@
 // The checks of one image, for a person to read. Files hold words, little end first.
 //     check FILE                   the image in a file of 32-bit words
+//     explain FILE                 the same, and then its classes and bodies in words
 //     conform IMAGE HEAP INPUTS    whether a heap and inputs, files of 64-bit words, fit an image
 //     run IMAGE HEAP INPUTS STEPS DEPTH [OUT]
 //                                  the run of an image within these limits; the heap after it in OUT
 //     demo                         a small example, with its words
-// The answer is a line `number N place P`, for a run with ` count C value V`, and a line that says
-// what that means. What goes wrong is one line that begins `error: `.
+// The answer is a line `number N place P`, for a run with ` count C value V`, a line that says
+// what that means, and often one with the rule. What goes wrong is one line that begins `error: `.
 mod demo;
+mod errors;
 mod file;
 mod runs;
-mod say;
 
 use runs::Limits;
 use text::Fed;
 
-fn check_file() {
+fn check_file(explains: bool) {
     let mut path = io::buffer();
     let n = os::arg(2, &mut path);
     if os::errno() != 0 {
-        say::usage();
+        errors::usage();
         return;
     }
-    file::check(&path[..n]);
+    file::check(&path[..n], explains);
 }
 
 fn conform_files() {
@@ -37,7 +38,7 @@ fn conform_files() {
         file::conform(&image[..n], &heap[..h], &inputs[..i]);
         return;
     }
-    say::usage();
+    errors::usage();
 }
 
 // What is read of a decimal number.
@@ -51,7 +52,7 @@ fn number_at(i: usize) -> Given {
     let n = os::arg(i, &mut text);
     let g = number_of(&text[..n]);
     if !g.is_number {
-        say::error(&text[..n], b": this is no decimal number below 2^64");
+        errors::with(&text[..n], b": this is no decimal number below 2^64");
     }
     g
 }
@@ -98,7 +99,7 @@ fn run_within(count: usize) {
     let mut out = io::buffer();
     let o = os::arg(7, &mut out);
     if count == 8 && o == 0 {
-        say::usage();
+        errors::usage();
         return;
     }
     run_files(l, &out[..o]);
@@ -117,12 +118,16 @@ fn run_files(l: Limits, out: &[u8]) {
         runs::run(&image[..n], &heap[..h], &inputs[..i], l, out);
         return;
     }
-    say::usage();
+    errors::usage();
 }
 
 fn obey(command: &[u8], count: usize) {
     if count == 3 && check::same(command, b"check") {
-        check_file();
+        check_file(false);
+        return;
+    }
+    if count == 3 && check::same(command, b"explain") {
+        check_file(true);
         return;
     }
     if count == 5 && check::same(command, b"conform") {
@@ -137,7 +142,7 @@ fn obey(command: &[u8], count: usize) {
         demo::show();
         return;
     }
-    say::usage();
+    errors::usage();
 }
 
 fn main() {

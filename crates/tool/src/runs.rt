@@ -3,8 +3,8 @@ ghost use mathlib.Core.Path.{_≡_};
 ghost use Prim.Native.Nat.{_+_, _≤_};
 ghost use lib.ListN.{length};
 ghost use Rattle.text.specs.Words.{Counts};
+use crate::errors;
 use crate::file;
-use crate::say;
 
 pub struct Limits {
     pub steps: u64,
@@ -56,7 +56,7 @@ fn run_on(image: &[u32], heap: &mut [u64], inputs: &[u64], l: Limits, out: &[u8]
     let ran = run::run(image, heap, inputs, &mut room[..n], l.steps, l.depth);
     let t = run::numbers_of(ran);
     if t.number < FIRST_END || keep(heap, out) {
-        say::ran(t);
+        say::ran(t.number, t.place, t.count, t.value);
     }
 }
 
@@ -94,16 +94,16 @@ fn keep(heap: &[u64], out: &[u8]) -> bool {
         return true;
     }
     os::unlink(&name[..n]);
-    say::error(out, b": the file cannot be written");
+    errors::with(out, b": the file cannot be written");
     false
 }
 
 fn not_made(out: &[u8], errno: i32) {
     if errno == libc::EEXIST {
-        say::error(out, b".new: there is such a file already");
+        errors::with(out, b".new: there is such a file already");
         return;
     }
-    say::error(out, b": the file cannot be written");
+    errors::with(out, b": the file cannot be written");
 }
 
 const BESIDE: [u8; 4] = [b'.', b'n', b'e', b'w'];

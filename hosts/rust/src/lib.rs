@@ -34,15 +34,15 @@ pub enum Value {
 /// How a run ended.
 #[derive(Clone, Copy, Debug, PartialEq, Eq)]
 pub enum End {
-    /// 30: main became this value.
+    /// 30: main returned a value.
     Value(Value),
-    /// 31: an exception was not caught; the address of its object.
+    /// 31: main threw an object. This is its address.
     Thrown(u32),
-    /// 32: the step limit was reached.
+    /// 32: the limit of steps was reached.
     OutOfSteps,
-    /// 33: the next step was deeper than the depth limit.
+    /// 33: the next step lies deeper than the depth limit allows.
     TooDeep,
-    /// 34: no rule applies at this node. It does not happen where `check` and `conform` accepted.
+    /// 34: no step can be taken. It does not happen where `check` and `conform` accepted.
     Stuck { place: u64 },
 }
 
@@ -85,6 +85,39 @@ impl Value {
 /// How many words of room a run with this depth limit needs. Limits above 1,024 are refused whatever the room.
 pub fn room_words(depth: u64) -> usize {
     16 * depth.min(1024) as usize + 160
+}
+
+/// What a number means, for a person: the words of docs/NUMBERS.md. There is no other number that an answer has.
+pub fn meaning(number: u64) -> Option<&'static str> {
+    Some(match number {
+        0 => "nothing is broken",
+        1 => "fewer than 8 words, or another format",
+        2 => "a trailer word that does not fit the image",
+        3 => "a section, or main's inputs, over the ceiling",
+        4 => "a class record that is broken or missing",
+        5 => "a broken field record",
+        6 => "a broken method record",
+        7 => "a broken type word",
+        8 => "a broken node record",
+        9 => "bodies that do not fill the node table",
+        10 => "a class with more than 15 fields, those above it counted",
+        11 => "a method that overrides badly",
+        12 => "a node without a type, or a body whose type does not fit the result",
+        13 => "a variable that is read where it is not surely set",
+        14 => "a heap of the wrong length",
+        15 => "a heap word that no heap of this image has there",
+        16 => "a wrong number of inputs, or an input that is no value",
+        17 => "a heap word that does not fit its type",
+        18 => "an input that does not fit its type",
+        19 => "a depth limit outside 1 to 1024",
+        20 => "too little room for the depth limit",
+        30 => "main returned a value",
+        31 => "main threw an object",
+        32 => "the limit of steps was reached",
+        33 => "the next step lies deeper than the depth limit allows",
+        34 => "no step can be taken",
+        _ => return None,
+    })
 }
 
 /// May this image be let in? Numbers 1 to 13.

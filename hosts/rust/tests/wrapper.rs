@@ -1,6 +1,6 @@
 //! The decoded answers: the paper's examples, and slices without words.
 
-use muthaveri::{check, conform, room_words, run, Answer, End, Run, Value};
+use muthaveri::{check, conform, meaning, room_words, run, Answer, End, Run, Value};
 
 type Node = [u32; 4];
 
@@ -93,4 +93,12 @@ fn nothing_at_all() {
     assert_eq!(run(&image, &mut [], &[], &mut [], 0, 0), Run::Refused { number: 14, place: 0 });
     assert_eq!(run(&image, &mut heap(0), &[], &mut [], 0, 8), Run::Refused { number: 20, place: 0 });
     assert_eq!(run(&image, &mut heap(0), &[], &mut vec![0; room_words(8)], 0, 1025), Run::Refused { number: 19, place: 0 });
+}
+
+#[test]
+fn every_number_has_a_meaning() {
+    for number in 0..100 {
+        let is_given = number <= 20 || (30..=34).contains(&number);
+        assert_eq!(meaning(number).is_some(), is_given, "{number}");
+    }
 }
