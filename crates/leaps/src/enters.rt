@@ -36,30 +36,13 @@ const TRUE: u64 = 2 * TAG + 2;
 
 const FALSE: u64 = 2 * TAG + 1;
 
-// Word k of node n, where nodes begin at word `nodes`.
-pub fn word_at(ws: &[u32], nodes: usize, n: usize, k: usize) -> u32
-    requires { ⌜ Tabled (now ws) nodes × (n < nodeCount (now ws)) × (k < 4) ⌝ }
-    ensures { λ r. ⌜ r ≡ nodeWord (now (ws .entry)) n k ⌝ }
-{
-    ws[nodes + 4 * n + k]
-}
-
-// The operand before a node's last one.
-pub fn before_last(ws: &[u32], nodes: usize, n: usize) -> usize
-    requires { ⌜ Tabled (now ws) nodes × (n < nodeCount (now ws)) × (1 < operandCount (now ws) n) ⌝ }
-    ensures { λ r. ⌜ (r ≡ operand (now (ws .entry)) n 1) × (r < n) ⌝ }
-{
-    let last = n - 1;
-    last - word_at(ws, nodes, last, 1) as usize
-}
-
 // The first of an If's three operands.
 fn condition(ws: &[u32], nodes: usize, n: usize) -> usize
     requires { ⌜ Tabled (now ws) nodes × (n < nodeCount (now ws)) × (2 < operandCount (now ws) n) ⌝ }
     ensures { λ r. ⌜ (r ≡ operand (now (ws .entry)) n 2) × (r < n) ⌝ }
 {
-    let m = before_last(ws, nodes, n);
-    m - word_at(ws, nodes, m, 1) as usize
+    let m = quick::first_of_two(ws, nodes, n);
+    m - quick::word_at(ws, nodes, m, 1) as usize
 }
 
 // Pushes the frame of node n and goes on to its first operand m.
@@ -103,7 +86,7 @@ pub fn new(
         Found::Nowhere => crate::none(),
         Found::At(a) => {
             let nodes = lay.nodes;
-            let c = word_at(ws, nodes, n, 2) as usize;
+            let c = quick::word_at(ws, nodes, n, 2) as usize;
             objects::new_object(ws, lay, counts, types, heap, a, c);
             room[SEARCH] = (a + 1) as u64;
             crate::at_value(ADDRESS + a as u64, l, 1)
@@ -116,8 +99,8 @@ pub fn block(ws: &[u32], nodes: usize, room: &mut [u64], n: usize, l: usize) -> 
     requires { ⌜ Tabled (now ws) nodes × (n < nodeCount (now ws)) × (frameAt (suc l) ≤ length (now room)) × (nodeWord (now ws) n 0 ≡ 10) ⌝ }
     ensures { λ r. ⌜ ((hs : List ℕ) → Enters (now (ws .entry)) hs (now (room .entry)) l n hs (now (room .exit)) r) ⌝ }
 {
-    let x = word_at(ws, nodes, n, 2) as usize;
-    let t = word_at(ws, nodes, n, 3) as u64;
+    let x = quick::word_at(ws, nodes, n, 2) as usize;
+    let t = quick::word_at(ws, nodes, n, 3) as u64;
     enter::push_block(room, l, n, x, t, 0);
     crate::at_node(n - 1, l + 1, 0)
 }
@@ -130,7 +113,7 @@ fn asked(ws: &[u32], nodes: usize, kind: u32, n: usize) -> usize
     match kind {
         6 => n - 1,
         12 => condition(ws, nodes, n),
-        13 => before_last(ws, nodes, n),
+        13 => quick::first_of_two(ws, nodes, n),
         _ => n,
     }
 }
@@ -141,7 +124,7 @@ fn assign(ws: &[u32], nodes: usize, room: &mut [u64], n: usize, l: usize, q: Qui
     requires { ⌜ Tabled (now ws) nodes × (n < nodeCount (now ws)) × (frameAt (suc l) ≤ length (now room)) × (nodeWord (now ws) n 0 ≡ 6) × (q .steps ≤ mostQuick) ⌝ }
     ensures { λ r. ⌜ ((hs : List ℕ) → Known (now (ws .entry)) hs (now (room .entry)) (operand (now (ws .entry)) n 0) 2 q → Enters (now (ws .entry)) hs (now (room .entry)) l n hs (now (room .exit)) r) ⌝ }
 {
-    let x = word_at(ws, nodes, n, 2) as usize;
+    let x = quick::word_at(ws, nodes, n, 2) as usize;
     let h = q.held;
     if (h == 0) | (room[x] == 0) {
         return first(room, 6, n, n - 1, l);
@@ -165,7 +148,7 @@ fn branch(
 {
     let h = q.held;
     if h == TRUE {
-        return crate::at_node(before_last(ws, nodes, n), l, q.steps + 1);
+        return crate::at_node(quick::first_of_two(ws, nodes, n), l, q.steps + 1);
     }
     if h == FALSE {
         return crate::at_node(n - 1, l, q.steps + 1);
@@ -210,7 +193,7 @@ fn whole(
     if kind == 7 {
         return first(room, kind, n, n - 1, l);
     }
-    first(room, kind, n, before_last(ws, nodes, n), l)
+    first(room, kind, n, quick::first_of_two(ws, nodes, n), l)
 }
 
 // A node that goes on by a value, if that is to be had without a frame.
@@ -279,7 +262,7 @@ fn gather(
         k -= 1;
         room[at + (OPERANDS + k)] = h - 1;
         steps += q.steps;
-        end -= word_at(ws, nodes, m, 1) as usize;
+        end -= quick::word_at(ws, nodes, m, 1) as usize;
     }
     steps
 }
@@ -299,7 +282,7 @@ pub fn call(
     ensures { λ r. ⌜ Lands (now (ws .entry)) depth l (now (heap .entry)) (now (room .entry)) l (Node n) (now (heap .entry)) (now (room .exit)) r ⌝ }
 {
     let nodes = lay.nodes;
-    let y = word_at(ws, nodes, n, 3) as usize;
+    let y = quick::word_at(ws, nodes, n, 3) as usize;
     if depth < l + y {
         return crate::none();
     }

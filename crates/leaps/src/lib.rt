@@ -100,7 +100,7 @@ pub fn enter_leap(
     ensures { λ r. ⌜ Lands (now (ws .entry)) depth l (now (heap .entry)) (now (room .entry)) l (Node n) (now (heap .exit)) (now (room .exit)) r ⌝ }
 {
     let nodes = lay.nodes;
-    let kind = enters::word_at(ws, nodes, n, 0);
+    let kind = quick::word_at(ws, nodes, n, 0);
     match kind {
         0 => enters::new(ws, lay, counts, types, heap, room, n, l),
         2 => enters::leaf(ws, nodes, room, n, l),
@@ -108,7 +108,7 @@ pub fn enter_leap(
         9 => enters::call(ws, lay, heap, room, memo, depth, n, l),
         10 => enters::block(ws, nodes, room, n, l),
         1 | 14 => enters::first(room, kind, n, n - 1, l),
-        8 | 11 | 15 => enters::first(room, kind, n, enters::before_last(ws, nodes, n), l),
+        8 | 11 | 15 => enters::first(room, kind, n, quick::first_of_two(ws, nodes, n), l),
         _ => enters::with_quick(ws, nodes, heap, room, memo, kind, n, l),
     }
 }

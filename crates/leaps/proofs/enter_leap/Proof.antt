@@ -33,8 +33,8 @@ sub-first c = let p = c .before .before .before .before .before .before .before 
 first-requires : tie.Need-first-requires
 first-requires c κs = let p = c .before .before .before .before .before .before .before .before .before .pre in omega (arith, p .2 .long, p .5)
 
-before-last-requires : tie.Need-before-last-requires
-before-last-requires c κs = let p = c .before .before .before .before .before .before .before .before .before .pre in (tabled (p .0), p .2 .here, omega (arith, count-two _ _ (sym (c .before .before .word-at .ensures)) (inr (inr (c .before .match .keys7)))))
+first-of-two-requires : tie.Need-first-of-two-requires
+first-of-two-requires c κs = let p = c .before .before .before .before .before .before .before .before .before .pre in (tabled (p .0), p .2 .here, omega (arith, count-two _ _ (sym (c .before .before .word-at .ensures)) (inr (inr (c .before .match .keys7)))))
 
 first-requires-2 : tie.Need-first-requires-2
 first-requires-2 c κs = let p = c .before .before .before .before .before .before .before .before .before .before .pre in omega (arith, p .2 .long, p .5)
@@ -88,7 +88,7 @@ same-length-9 : tie.Need-same-length-9
 same-length-9 c = search needs
 
 returns-7 : tie.Need-returns-7
-returns-7 c = let p = c .before .before .before .before .before .before .before .before .before .before .before .before .before .pre in c .before .before .first2 .ensures _ _ (p .0 .nodes) (rw (c .before .before .before .before-last .ensures .0) (first-two _ _ (sym (c .before .before .before .before .before .before .word-at .ensures)) (inr (inr (c .before .before .before .before .before .match .keys7))))) _ (p .2) (p .3) (p .5)
+returns-7 c = let p = c .before .before .before .before .before .before .before .before .before .before .before .before .before .pre in c .before .before .first2 .ensures _ _ (p .0 .nodes) (rw (c .before .before .before .first-of-two .ensures .0) (first-two _ _ (sym (c .before .before .before .before .before .before .word-at .ensures)) (inr (inr (c .before .before .before .before .before .match .keys7))))) _ (p .2) (p .3) (p .5)
 
 same-length-10 : tie.Need-same-length-10
 same-length-10 c = search needs
@@ -111,7 +111,7 @@ enter-leap-spec =
     block-requires
     sub-first
     first-requires
-    before-last-requires
+    first-of-two-requires
     first-requires-2
     with-quick-requires
     same-length

@@ -14,8 +14,8 @@ sub-result c = let p = c .before .before .pre in after-first _ _ (p .0 .holds _ 
 condition-requires : tie.Need-condition-requires
 condition-requires c κs = let p = c .before .before .pre in (p .0, p .1, if-operand _ _ (p .2 ∙ c .match .keys2))
 
-before-last-requires : tie.Need-before-last-requires
-before-last-requires c κs = let p = c .before .before .pre in (p .0, p .1, while-operand _ _ (p .2 ∙ c .match .keys3))
+first-of-two-requires : tie.Need-first-of-two-requires
+first-of-two-requires c κs = let p = c .before .before .pre in (p .0, p .1, while-operand _ _ (p .2 ∙ c .match .keys3))
 
 returns : tie.Need-returns
 unfolding operand
@@ -25,7 +25,7 @@ returns-2 : tie.Need-returns-2
 returns-2 c = let p = c .before .before .before .pre in let k = c .before .match .keys2 in record { within = omega (arith, p .1, c .condition .ensures .1); assign = λ e. absurd (omega arith); branch = λ e. c .condition .ensures .0; repeat = λ e. absurd (omega arith); whole = λ a b. absurd (b k) }
 
 returns-3 : tie.Need-returns-3
-returns-3 c = let p = c .before .before .before .pre in let k = c .before .match .keys3 in record { within = omega (arith, p .1, c .before-last .ensures .1); assign = λ e. absurd (omega arith); branch = λ e. absurd (omega arith); repeat = λ e. c .before-last .ensures .0; whole = λ a b d. absurd (d k) }
+returns-3 c = let p = c .before .before .before .pre in let k = c .before .match .keys3 in record { within = omega (arith, p .1, c .first-of-two .ensures .1); assign = λ e. absurd (omega arith); branch = λ e. absurd (omega arith); repeat = λ e. c .first-of-two .ensures .0; whole = λ a b d. absurd (d k) }
 
 returns-4 : tie.Need-returns-4
 returns-4 c = let p = c .before .before .pre in let r = c .match .rest in record { within = p .1; assign = λ e. absurd (r .0 .0 .1 e); branch = λ e. absurd (r .0 .1 e); repeat = λ e. absurd (r .1 e); whole = λ a b d. refl }
@@ -36,7 +36,7 @@ asked-spec =
     (tie.spec
     sub-result
     condition-requires
-    before-last-requires
+    first-of-two-requires
     returns
     returns-2
     returns-3

@@ -5,8 +5,8 @@ use borrow.Author.Needs.{needs}
 use native.Mathlib.Omega.{arith}
 use Rattle.leaps.proofs.enters.branch.Tie as tie
 
-before-last-requires : tie.Need-before-last-requires
-before-last-requires c κs = let p = c .before .before .before .pre in (p .0, p .1, omega (arith, if-operand _ _ (p .3)))
+first-of-two-requires : tie.Need-first-of-two-requires
+first-of-two-requires c κs = let p = c .before .before .before .pre in (p .0, p .1, omega (arith, if-operand _ _ (p .3)))
 
 add-at-node : tie.Need-add-at-node
 add-at-node c = search needs
@@ -15,7 +15,7 @@ at-node-requires : tie.Need-at-node-requires
 at-node-requires c κs = search needs
 
 returns : tie.Need-returns
-returns c = let p = c .before .before .before .before .before .before .pre in λ hs k D inv h low. rw (c .at-node .ensures, c .before .before .before-last .ensures .0) (then-lands (p .0 .holds) inv h low (p .3) (rw (p .4) at k) (c .before .before .before .if1 .taken))
+returns c = let p = c .before .before .before .before .before .before .pre in λ hs k D inv h low. rw (c .at-node .ensures, c .before .before .first-of-two .ensures .0) (then-lands (p .0 .holds) inv h low (p .3) (rw (p .4) at k) (c .before .before .before .if1 .taken))
 
 sub-at-node : tie.Need-sub-at-node
 sub-at-node c = let p = c .before .before .before .before .pre in after-first _ _ (p .0 .holds _ (p .1)) (first-if _ _ (p .3))
@@ -42,7 +42,7 @@ pub branch-spec : {M : Type 1} → statement M
 branch-spec =
     tie.close
     (tie.spec
-    before-last-requires
+    first-of-two-requires
     add-at-node
     at-node-requires
     returns

@@ -7,8 +7,8 @@ use mathlib.Core.Path.{refl}
 use native.Mathlib.Omega.{arith}
 use Rattle.leaps.proofs.enters.condition.Tie as tie
 
-before-last-requires : tie.Need-before-last-requires
-before-last-requires c κs = search needs
+first-of-two-requires : tie.Need-first-of-two-requires
+first-of-two-requires c κs = search needs
 
 word-at-requires : tie.Need-word-at-requires
 word-at-requires c κs = search needs
@@ -17,12 +17,12 @@ cast-result : tie.Need-cast-result
 cast-result c = search needs
 
 sub-result : tie.Need-sub-result
-sub-result c = let p = c .before .before .before .pre in rw (c .word-at .ensures, c .before .before-last .ensures .0) (omega (arith, operand-after _ _ (p .0 .holds _ (p .1)) 1 (p .2)))
+sub-result c = let p = c .before .before .before .pre in rw (c .word-at .ensures, c .before .first-of-two .ensures .0) (omega (arith, operand-after _ _ (p .0 .holds _ (p .1)) 1 (p .2)))
 
 returns : tie.Need-returns
 unfolding operand
-returns c = let p = c .before .before .before .pre in rw (c .word-at .ensures, c .before .before-last .ensures .0) (refl, omega (arith, operand-below _ _ (p .0 .holds _ (p .1)) 1 (omega (arith, p .2))))
+returns c = let p = c .before .before .before .pre in rw (c .word-at .ensures, c .before .first-of-two .ensures .0) (refl, omega (arith, operand-below _ _ (p .0 .holds _ (p .1)) 1 (omega (arith, p .2))))
 
 pub condition-spec : {M : Type 1} → statement M
 condition-spec =
-    tie.close (tie.spec before-last-requires word-at-requires cast-result sub-result returns)
+    tie.close (tie.spec first-of-two-requires word-at-requires cast-result sub-result returns)

@@ -27,8 +27,8 @@ same-length c = search needs
 returns-2 : tie.Need-returns-2
 returns-2 c = let p = c .before .before .before .before .before .before .before .before .pre in λ hs k. c .before .before .first .ensures _ hs (p .0 .holds) (first-one _ _ (p .3) (inr (inl (c .before .before .before .before .if2 .taken))))
 
-before-last-requires : tie.Need-before-last-requires
-before-last-requires c κs = let p = c .before .before .before .before .before .pre in let t = two-whole _ (p .4) (c .before .if2 .left) in (p .0, p .1, omega (arith, count-two _ _ (p .3) t))
+first-of-two-requires : tie.Need-first-of-two-requires
+first-of-two-requires c κs = let p = c .before .before .before .before .before .pre in let t = two-whole _ (p .4) (c .before .if2 .left) in (p .0, p .1, omega (arith, count-two _ _ (p .3) t))
 
 first-requires-2 : tie.Need-first-requires-2
 first-requires-2 c κs = search needs
@@ -37,7 +37,7 @@ same-length-2 : tie.Need-same-length-2
 same-length-2 c = search needs
 
 returns-3 : tie.Need-returns-3
-returns-3 c = let p = c .before .before .before .before .before .before .before .before .before .pre in let t = two-whole _ (p .4) (c .before .before .before .before .before .if2 .left) in λ hs k. c .before .before .first2 .ensures _ hs (p .0 .holds) (rw (c .before .before .before .before-last .ensures .0) (first-two _ _ (p .3) t))
+returns-3 c = let p = c .before .before .before .before .before .before .before .before .before .pre in let t = two-whole _ (p .4) (c .before .before .before .before .before .if2 .left) in λ hs k. c .before .before .first2 .ensures _ hs (p .0 .holds) (rw (c .before .before .before .first-of-two .ensures .0) (first-two _ _ (p .3) t))
 
 pub whole-spec : {M : Type 1} → statement M
 whole-spec =
@@ -50,7 +50,7 @@ whole-spec =
     first-requires
     same-length
     returns-2
-    before-last-requires
+    first-of-two-requires
     first-requires-2
     same-length-2
     returns-3)
