@@ -1,3 +1,4 @@
 -- What lookups found, kept.
 pub mod Memo
+-- Laws.
 pub mod MemoLaws

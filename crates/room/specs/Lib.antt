@@ -2,6 +2,7 @@
 pub mod Room
 pub mod Stack
 pub mod Turn
+pub mod Leads
 -- Laws.
 pub mod RoomLaws
 pub mod Enter
@@ -10,5 +11,4 @@ pub mod Nodes
 pub mod Back
 pub mod Unwind
 pub mod Calls
-pub mod Leads
 pub mod LeadsLaws
