@@ -1,10 +1,11 @@
 -- `leaps::back_leap` meets its contract.
 use Rattle.image.specs.Nodes.{kindOf, operands}
 use Rattle.leaps.proofs.back_leap.Statement.{statement}
-use Rattle.leaps.specs.BackLaps.{comes, few-nodes, fielded, first-node, get-field, inner-node, lands-none, long-room, loop-lands, second-node, seq-lands, set-field, test-node, try-lands}
+use Rattle.leaps.specs.BackLaps.{comes, few-nodes, fielded, first-node, get-field, inner-node, long-room, loop-lands, second-node, seq-lands, set-field, test-node, try-lands}
+use Rattle.leaps.specs.LandsLaws.{lands-still}
 use Rattle.quick.specs.KnownLaws.{stored, tabled}
 use Rattle.room.specs.Room.{shapeOf}
-use Rattle.room.specs.RoomLaws.{fit-variable, kept-refl}
+use Rattle.room.specs.RoomLaws.{fit-variable}
 use borrow.Author.Needs.{needs}
 use mathlib.Core.Logic.{inl, inr}
 use mathlib.Core.Path.{refl}
@@ -191,7 +192,7 @@ returns-15 : tie.Need-returns-15
 returns-15 c = rw (c .at-node2 .ensures) (loop-lands _ _ _ _ _ _ _ (comes (c .before .before .before .before .before .before .before .before .pre) 29 (c .before .match .keys15)))
 
 returns-16 : tie.Need-returns-16
-returns-16 c = lands-none _ _ _ _ _ _ _ _ _ (c .none .ensures) (kept-refl _ _)
+returns-16 c = lands-still (c .none .ensures)
 
 pub back-leap-spec : {M : Type 1} → statement M
 back-leap-spec =
