@@ -53,15 +53,6 @@ some-held a t h = go (eqb a 0) refl h
     go false e z = let d = eqb-false a 0 e in omega (arith, d)
     go true e z = absurd (let y : _≡_ {A = ℕ} 0 1 = cc in omega arith)
 
--- neither of two words is 0
-pub neither : (a b : ℕ) → (eqb a 0 || eqb b 0) ≡ false → (a ≡ 0 → ⊥) × (b ≡ 0 → ⊥)
-neither a b h = go (eqb a 0) (eqb b 0) refl refl h
-  where
-    go : (s t : Bool) → eqb a 0 ≡ s → eqb b 0 ≡ t → (s || t) ≡ false → (a ≡ 0 → ⊥) × (b ≡ 0 → ⊥)
-    go false false e f z = (eqb-false a 0 e, eqb-false b 0 f)
-    go false true e f z = absurd (let y : _≡_ {A = ℕ} 0 1 = cc in omega arith)
-    go true t e f z = absurd (let y : _≡_ {A = ℕ} 0 1 = cc in omega arith)
-
 -- the kinds that go on by a value
 pub quickly : (k : ℕ) → k < 16 → (k ≡ 0 → ⊥) → (k ≡ 2 → ⊥) → (k ≡ 3 → ⊥) → (k ≡ 9 → ⊥) → (k ≡ 10 → ⊥) → ((k ≡ 1) ⊎ (k ≡ 14) → ⊥)
     → ((k ≡ 8) ⊎ ((k ≡ 11) ⊎ (k ≡ 15)) → ⊥) → Quickly k
