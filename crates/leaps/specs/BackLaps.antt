@@ -5,8 +5,6 @@ use mathlib.Core.Logic.{inl, inr}
 use Prim.Native.Nat.{ℕ, suc, _+_, _*_, _-_, _^_, _≤_, _<_}
 use native.Mathlib.Omega.{arith}
 use lib.ListN.{length, getD, set, length-set}
-use Rattle.image.specs.Numbers.{mostNodes}
-use Rattle.image.specs.Trailer.{nodeCount}
 use Rattle.image.specs.Nodes.{nodeWord, kindOf, operands}
 use Rattle.image.specs.Layout.{Good}
 use Rattle.image.specs.declared.Layout.{Layout}
@@ -32,9 +30,6 @@ use Rattle.leaps.specs.Lands.{Lands}
 use Rattle.leaps.specs.LandsLaws.{lands-node, lands-value, lands-thrown}
 use Rattle.leaps.specs.SetLaws.{set-armed}
 use Rattle.leaps.specs.Backs.{Comes, Begun, Fielded, Tried}
-
-pub few-nodes : {ws : List ℕ} {l : Layout} → Good ws l → (p : ℕ) → p < nodeCount ws → p < mostNodes
-few-nodes g p h = omega (arith, g .lay .node-count, g .small .nodes)
 
 -- a node of a kind that has operands is not the first one
 pub inner : (ws : List ℕ) (nodes p k : ℕ) → Tabled ws nodes → IsNode ws p k → 0 < operands (kindOf k) (nodeWord ws p 3) → 1 ≤ p
