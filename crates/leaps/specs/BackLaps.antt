@@ -1,15 +1,10 @@
 -- Laws of a leap back to a frame, one for each way on.
 use mathlib.Core.Path.{_≡_, refl, sym, _∙_, ap}
-use mathlib.Core.Bool.{Bool, true, false, _&&_, _||_}
 use mathlib.Core.List.{List}
 use mathlib.Core.Logic.{inl, inr}
-use Prim.Native.Nat.{ℕ, zero, suc, _+_, _*_, _-_, _^_, _≤_, _<_}
+use Prim.Native.Nat.{ℕ, suc, _+_, _*_, _-_, _^_, _≤_, _<_}
 use native.Mathlib.Omega.{arith}
-use lib.Dec.{eqb}
 use lib.ListN.{length, getD, set, length-set}
-use borrow.Author.Tests.{ne-eqb}
-use Rattle.image.specs.Numbers.{mostNodes}
-use Rattle.image.specs.Trailer.{nodeCount}
 use Rattle.image.specs.Nodes.{nodeWord, kindOf, operands}
 use Rattle.image.specs.Layout.{Good}
 use Rattle.image.specs.declared.Layout.{Layout}
@@ -24,22 +19,17 @@ use Rattle.redexes.specs.Outcomes.{Chooses, ThrowsAt, Tries}
 use Rattle.memo.specs.Memo.{IsField, Memo}
 use Rattle.quick.specs.Known.{Tabled, Eval, IsPair, Gives}
 use Rattle.quick.specs.KnownLaws.{tabled, pair-steps, second-leaps}
-use Rattle.room.specs.declared.Focus.{Focus}
 use Rattle.room.specs.declared.Focus.the-variants.{Node, Value as Word, Thrown}
 use Rattle.room.specs.Room.{searchWord, frameAt, first, second, shapeOf, word, tag, IsNode}
-use Rattle.room.specs.RoomLaws.{Kept, pushBlock}
+use Rattle.room.specs.RoomLaws.{pushBlock}
 use Rattle.room.specs.Turn.{HeapOk, Inv, Moves, Steps}
-use Rattle.room.specs.Armed.{armed, armedSeq}
 use Rattle.room.specs.Back as back
 use Rattle.room.specs.Unwind.{pass-try, catch-steps}
-use Rattle.room.specs.Leads.{Leaps}
 use Rattle.room.specs.LeadsLaws.{leaps-move, leaps-step}
-use Rattle.leaps.specs.declared.Leap.{Leap}
 use Rattle.leaps.specs.Lands.{Lands}
+use Rattle.leaps.specs.LandsLaws.{lands-node, lands-value, lands-thrown}
+use Rattle.leaps.specs.SetLaws.{set-armed}
 use Rattle.leaps.specs.Backs.{Comes, Begun, Fielded, Tried}
-
-pub few-nodes : {ws : List ℕ} {l : Layout} → Good ws l → (p : ℕ) → p < nodeCount ws → p < mostNodes
-few-nodes g p h = omega (arith, g .lay .node-count, g .small .nodes)
 
 -- a node of a kind that has operands is not the first one
 pub inner : (ws : List ℕ) (nodes p k : ℕ) → Tabled ws nodes → IsNode ws p k → 0 < operands (kindOf k) (nodeWord ws p 3) → 1 ≤ p
@@ -49,25 +39,6 @@ pub begun-small : (t : ℕ) → Begun t → t ≤ 8
 begun-small t (inl (inl e)) = omega arith
 begun-small t (inl (inr e)) = omega arith
 begun-small t (inr e) = omega arith
-
--- what a leap tells
-module _ (ws : List ℕ) (D top : ℕ) (hs room : List ℕ) (l : ℕ) (f : Focus) where
-  pub lands-none : (room' : List ℕ) (r : Leap) → (r .how ≡ 0) × (r .steps ≡ 0) → Kept room room' l
-      → Lands ws D top hs room l f hs room' r
-  lands-none room' r e k = record { few = rw (e .1) (omega arith); landing = rw (e .0) (k, refl) }
-
-  module _ (hs' room' : List ℕ) (k l' : ℕ) (few : k ≤ 63) where
-    pub lands-node : (n : ℕ) → Leaps ws D k hs room l f hs' room' l' (Node n)
-        → Lands ws D top hs room l f hs' room' (record { how = 1; word = n; place = 0; level = l'; steps = k })
-    lands-node n a = record { few = few; landing = a }
-
-    pub lands-value : (w : ℕ) → Leaps ws D k hs room l f hs' room' l' (Word w) → l' ≤ top
-        → Lands ws D top hs room l f hs' room' (record { how = 2; word = w; place = 0; level = l'; steps = k })
-    lands-value w a h = record { few = few; landing = (a, h) }
-
-    pub lands-thrown : (a p : ℕ) → Leaps ws D k hs room l f hs' room' l' (Thrown a p)
-        → Lands ws D top hs room l f hs' room' (record { how = 3; word = a; place = p; level = l'; steps = k })
-    lands-thrown a p b = record { few = few; landing = b }
 
 -- The value of w comes back to frame i.
 module _ (ws : List ℕ) (D : ℕ) (hs room : List ℕ) (p i w : ℕ) where
@@ -85,18 +56,15 @@ module _ (ws : List ℕ) (D : ℕ) (hs room : List ℕ) (p i w : ℕ) where
   -- a leap of one step that leaves the frame, to a value
   step-value : (hs' room' : List ℕ) (u : ℕ) → Steps ws D hs room (suc i) (Word w) hs' room' i (Word u)
       → Lands ws D i hs room (suc i) (Word w) hs' room' (record { how = 2; word = u; place = 0; level = i; steps = 1 })
-  step-value hs' room' u s =
-      lands-value ws D i hs room (suc i) (Word w) hs' room' 1 i (omega arith) u (leaps-step ws D s) (omega arith)
+  step-value hs' room' u s = lands-value (leaps-step ws D s) (omega arith) (omega arith)
 
   step-node : (room' : List ℕ) (l n : ℕ) → Steps ws D hs room (suc i) (Word w) hs room' l (Node n)
       → Lands ws D i hs room (suc i) (Word w) hs room' (record { how = 1; word = n; place = 0; level = l; steps = 1 })
-  step-node room' l n s =
-      lands-node ws D i hs room (suc i) (Word w) hs room' 1 l (omega arith) n (leaps-step ws D s)
+  step-node room' l n s = lands-node (leaps-step ws D s) (omega arith)
 
   step-thrown : (a q : ℕ) → Steps ws D hs room (suc i) (Word w) hs room i (Thrown a q)
       → Lands ws D i hs room (suc i) (Word w) hs room (record { how = 3; word = a; place = q; level = i; steps = 1 })
-  step-thrown a q s =
-      lands-thrown ws D i hs room (suc i) (Word w) hs room 1 i (omega arith) a q (leaps-step ws D s)
+  step-thrown a q s = lands-thrown (leaps-step ws D s) (omega arith)
 
   pub seq-lands : Comes ws D hs room 11 p i w
       → Lands ws D i hs room (suc i) (Word w) hs room (record { how = 1; word = p - 1; place = 0; level = i; steps = 1 })
@@ -152,8 +120,8 @@ module _ (ws : List ℕ) (D : ℕ) (hs room : List ℕ) (p i w : ℕ) where
       → Lands ws D i hs room (suc i) (Word w) hs room (record { how = 3; word = a; place = p; level = i; steps = 0 })
   throw-lands k a s =
       rw (k .placed)
-      (lands-thrown ws D i hs room (suc i) (Word w) hs room 0 i (omega arith) a _
-      (leaps-move ws D (k .heap) (back.throw-moves ws (k .nodes) D hs room i w (k .inv) a (k .tagged) (s .is) (s .small))))
+      (lands-thrown (leaps-move ws D (k .heap) (back.throw-moves ws (k .nodes) D hs room i w (k .inv) a (k .tagged) (s .is) (s .small)))
+      (omega arith))
 
   pub get-field : Comes ws D hs room 7 p i w → IsField ws p
   unfolding shapeOf
@@ -200,32 +168,13 @@ module _ (ws : List ℕ) (D : ℕ) (hs room : List ℕ) (p i w : ℕ) where
         (set hs j w) w (rw (← k .placed) (s .writes w (k .inv .here))) (k .inv .here) written-heap)
 
   -- an Assign of a variable that is set: no block takes the value up
-  set-unarmed : (l x : ℕ) → (getD room x 0 ≡ 0 → ⊥) → armed ws room l x ≡ false
-  unfolding armed
-  set-unarmed zero x d = refl
-  set-unarmed (suc j) x d = rw (ne-eqb (getD room x 0) 0 d) (go (eqb (tag ws room j) 10) (eqb (word ws room j 2) x))
-    where
-      go : (a b : Bool) → (a && b && false) ≡ false
-      go true true = refl
-      go true false = refl
-      go false b = refl
-
-  set-unarmed-seq : (l x : ℕ) → (getD room x 0 ≡ 0 → ⊥) → armedSeq ws room l x ≡ false
-  unfolding armedSeq
-  set-unarmed-seq zero x d = refl
-  set-unarmed-seq (suc j) x d = rw (set-unarmed j x d) (go (eqb (tag ws room j) 11 || eqb (tag ws room j) 29))
-    where
-      go : (a : Bool) → (a && false) ≡ false
-      go true = refl
-      go false = refl
-
   pub assign-lands : Comes ws D hs room 6 p i w → (x : ℕ) → x ≡ nodeWord ws p 2 → (getD room x 0 ≡ 0 → ⊥)
       → Lands ws D i hs room (suc i) (Word w) hs (set room x (suc w)) (record { how = 2; word = w; place = 0; level = i; steps = 1 })
   assign-lands k x e d =
       let q : x ≡ nodeWord ws (word ws room i 1) 2 = e ∙ ap (λ n. nodeWord ws n 2) (k .placed) in
       rw q
       (step-value hs _ w
-      (back.assign-steps ws (k .nodes) D hs room i w (k .inv) (k .heap) (k .tagged) (rw (← q) (set-unarmed-seq i x d))))
+      (back.assign-steps ws (k .nodes) D hs room i w (k .inv) (k .heap) (k .tagged) (rw (← q) (set-armed ws room i x d))))
 
   -- The first of two operands is a value: the frame becomes the second's.
   abbrev seconds : ℕ → List ℕ
@@ -239,9 +188,7 @@ module _ (ws : List ℕ) (D : ℕ) (hs room : List ℕ) (p i w : ℕ) where
 
   pub first-lands : (t : ℕ) → Begun t → Comes ws D hs room t p i w
       → Lands ws D i hs room (suc i) (Word w) hs (seconds t) (record { how = 1; word = p - 1; place = 0; level = suc i; steps = 0 })
-  first-lands t b k =
-      lands-node ws D i hs room (suc i) (Word w) hs (seconds t) 0 (suc i) (omega arith) (p - 1)
-      (leaps-move ws D (k .heap) (first-moves t b k))
+  first-lands t b k = lands-node (leaps-move ws D (k .heap) (first-moves t b k)) (omega arith)
 
 -- The values of both operands of an Add or an Eq are known.
 module _ (ws : List ℕ) (D : ℕ) (hs room : List ℕ) (p i w : ℕ) (t u : ℕ) where
@@ -255,10 +202,10 @@ module _ (ws : List ℕ) (D : ℕ) (hs room : List ℕ) (p i w : ℕ) (t u : ℕ
       → Lands ws D i hs room (suc i) (Word w) hs room (record { how = 2; word = u; place = 0; level = i; steps = m + 1 })
   unfolding operand
   pair-lands b k v m e g h =
-      lands-value ws D i hs room (suc i) (Word w) hs room (m + 1) i (omega arith) u
+      lands-value
       (second-leaps ws (k .nodes) hs room D room i p t w v u m 0 (λ x l. refl) (k .inv) (k .heap) (omega (arith, k .below)) b (k .tagged)
       (sym (k .placed)) e g)
-      (omega arith)
+      (omega arith) (omega arith)
 
 -- Where a value comes back, from what back_leap is promised.
 module _ {ws : List ℕ} {lay : Layout} {D : ℕ} {hs room memo : List ℕ} {i w : ℕ}
@@ -280,8 +227,7 @@ module _ {ws : List ℕ} {lay : Layout} {D : ℕ} {hs room memo : List ℕ} {i w
 module _ (ws : List ℕ) (D : ℕ) (hs room : List ℕ) (i a q : ℕ) where
   pub unwound : (p : ℕ) (room' : List ℕ) → Steps ws D hs room (suc i) (Thrown a q) hs room' i (Thrown a p)
       → Lands ws D i hs room (suc i) (Thrown a q) hs room' (record { how = 3; word = a; place = p; level = i; steps = 1 })
-  unwound p room' s =
-      lands-thrown ws D i hs room (suc i) (Thrown a q) hs room' 1 i (omega arith) a p (leaps-step ws D s)
+  unwound p room' s = lands-thrown (leaps-step ws D s) (omega arith)
 
   module _ (p : ℕ) (k : Tried ws D hs room p i a q) where
     pub pass-lands : Tries ws hs (nodeWord ws p 2) a Passes
@@ -299,5 +245,5 @@ module _ (ws : List ℕ) (D : ℕ) (hs room : List ℕ) (i a q : ℕ) where
         let z = rw (k .placed) at e in
         let u = address-word a (k .inv .here) in
         rw (k .placed)
-        (lands-node ws D i hs room (suc i) (Thrown a q) hs _ 1 (suc i) (omega arith) _
-        (leaps-step ws D (catch-steps ws (k .nodes) D hs room i a q (k .inv) (k .heap) (k .tagged) _ (u .1) (u .0) (z _ _ _ _))))
+        (lands-node (leaps-step ws D (catch-steps ws (k .nodes) D hs room i a q (k .inv) (k .heap) (k .tagged) _ (u .1) (u .0) (z _ _ _ _)))
+        (omega arith))

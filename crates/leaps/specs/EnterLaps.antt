@@ -1,7 +1,7 @@
 -- Laws of leaps from a node. A leap goes through rooms that are never written: the room at its end agrees with the real one below
 -- the level, and no more is asked.
 use mathlib.Core.Path.{_≡_, refl, sym, _∙_}
-use mathlib.Core.Bool.{Bool, true, false, _&&_, _||_}
+use mathlib.Core.Bool.{Bool, true, false, _||_}
 use mathlib.Core.List.{List}
 use mathlib.Core.Logic.{_⊎_, inl, inr}
 use Prim.Native.Nat.{ℕ, zero, suc, _+_, _*_, _-_, _^_, _≤_, _<_}
@@ -10,16 +10,13 @@ use native.Mathlib.Decide.{ℕ-discrete}
 use lib.Dec.{eqb}
 use lib.ListN.{length, getD, set, length-set}
 use lib.Seq.{getD-set-same, getD-set-other}
-use borrow.Author.Tests.{ne-eqb, eqb-false}
-use Rattle.image.specs.declared.Layout.{Layout}
+use borrow.Author.Tests.{eqb-false}
 use Rattle.image.specs.Nodes.{nodeWord, kindOf, operands, nodeHolds}
-use Rattle.image.specs.Layout.{Good}
 use Rattle.rules.specs.Trees.{operand}
 use Rattle.laws.specs.Trees.{operandCount, operand-below}
 use Rattle.redexes.specs.declared.Choice.the-variants.{Then, Otherwise}
 use Rattle.redexes.specs.Outcomes.{Chooses}
 use Rattle.redexes.specs.RedexLaws.{if-then, if-otherwise}
-use Rattle.room.specs.declared.Focus.{Focus}
 use Rattle.room.specs.declared.Focus.the-variants.{Node, Value}
 use Rattle.room.specs.Room.{searchWord, frameAt, shapeOf, first, word, tag}
 use Rattle.room.specs.RoomLaws.{Kept, push, push-kept, push-tag, push-place, pushBlock}
@@ -27,7 +24,7 @@ use Rattle.room.specs.Turn.{HeapOk, Inv}
 use Rattle.room.specs.Enter.{enter-first}
 use Rattle.room.specs.Nodes.{while-steps, enter-block, assign-local}
 use Rattle.room.specs.Back.{assign-steps, then-steps, else-steps, over-steps, again-steps}
-use Rattle.room.specs.Armed.{armed, armedSeq}
+use Rattle.room.specs.Armed.{armedSeq}
 use Rattle.room.specs.Leads.{Leaps}
 use Rattle.room.specs.LeadsLaws.{leaps-move, leaps-step, leaps-on, leaps-kept}
 use Rattle.quick.specs.declared.Quick.{Quick}
@@ -35,11 +32,8 @@ use Rattle.quick.specs.Known.{Eval, Known}
 use Rattle.quick.specs.KnownLaws.{kept-back}
 use Rattle.leaps.specs.Lands.{Lands}
 use Rattle.leaps.specs.LandsLaws.{lands-node, lands-value}
+use Rattle.leaps.specs.SetLaws.{set-armed}
 use Rattle.leaps.specs.Enters.{Holds, First, One, Two, Whole, Quickly}
-
-and-none : (b : Bool) → (b && false) ≡ false
-and-none true = refl
-and-none false = refl
 
 -- an answer that holds a value
 pub known-eval : {ws hs room : List ℕ} {m d : ℕ} {q : Quick} → Known ws hs room m d q → (q .held ≡ 0 → ⊥)
@@ -58,15 +52,6 @@ some-held a t h = go (eqb a 0) refl h
     go : (s : Bool) → eqb a 0 ≡ s → (s || t) ≡ false → 1 ≤ a
     go false e z = let d = eqb-false a 0 e in omega (arith, d)
     go true e z = absurd (let y : _≡_ {A = ℕ} 0 1 = cc in omega arith)
-
--- neither of two words is 0
-pub neither : (a b : ℕ) → (eqb a 0 || eqb b 0) ≡ false → (a ≡ 0 → ⊥) × (b ≡ 0 → ⊥)
-neither a b h = go (eqb a 0) (eqb b 0) refl refl h
-  where
-    go : (s t : Bool) → eqb a 0 ≡ s → eqb b 0 ≡ t → (s || t) ≡ false → (a ≡ 0 → ⊥) × (b ≡ 0 → ⊥)
-    go false false e f z = (eqb-false a 0 e, eqb-false b 0 f)
-    go false true e f z = absurd (let y : _≡_ {A = ℕ} 0 1 = cc in omega arith)
-    go true t e f z = absurd (let y : _≡_ {A = ℕ} 0 1 = cc in omega arith)
 
 -- the kinds that go on by a value
 pub quickly : (k : ℕ) → k < 16 → (k ≡ 0 → ⊥) → (k ≡ 2 → ⊥) → (k ≡ 3 → ⊥) → (k ≡ 9 → ⊥) → (k ≡ 10 → ⊥) → ((k ≡ 1) ⊎ (k ≡ 14) → ⊥)
@@ -183,15 +168,6 @@ module _ (room : List ℕ) (l s t p : ℕ) (h : frameAt (suc l) ≤ length room)
         size = rw (length-set, length-set, length-set, length-set, length-set);
         same = λ j i. over-same j (ℕ-discrete j (frameAt l)) (ℕ-discrete j (frameAt l + 1));
       }
-
--- a variable that is set arms no block
-set-armed : (ws room : List ℕ) (l x : ℕ) → (getD room x 0 ≡ 0 → ⊥) → armedSeq ws room l x ≡ false
-unfolding armedSeq armed
-set-armed ws room zero x d = refl
-set-armed ws room (suc zero) x d = and-none (eqb (tag ws room 0) 11 || eqb (tag ws room 0) 29)
-set-armed ws room (suc (suc l)) x d =
-    rw (ne-eqb (getD room x 0) 0 d, and-none (eqb (tag ws room l) 10 && eqb (word ws room l 2) x))
-    (and-none (eqb (tag ws room (suc l)) 11 || eqb (tag ws room (suc l)) 29))
 
 module _ {ws : List ℕ} (g : Holds ws) {D : ℕ} {hs room : List ℕ} {l n : ℕ} (inv : Inv ws D room l (Node n))
     (heap : HeapOk ws hs (getD room searchWord 0)) (low : l + 3 ≤ D) where

@@ -4,7 +4,7 @@ use mathlib.Core.List.{List}
 use Prim.Native.Nat.{ℕ, _≤_}
 use native.Mathlib.Omega.{arith}
 use Rattle.room.specs.declared.Focus.{Focus}
-use Rattle.room.specs.declared.Focus.the-variants.{Node, Value}
+use Rattle.room.specs.declared.Focus.the-variants.{Node, Value, Thrown}
 use Rattle.room.specs.RoomLaws.{Kept, kept-refl}
 use Rattle.room.specs.Leads.{Leaps}
 use Rattle.leaps.specs.declared.Leap.{Leap}
@@ -26,3 +26,7 @@ module _ {ws : List ℕ} {D top : ℕ} {hs room : List ℕ} {l : ℕ} {f : Focus
     pub lands-value : {w : ℕ} → Leaps ws D k hs room l f hs' room' level (Value w) → k ≤ mostSteps → level ≤ top
         → Lands ws D top hs room l f hs' room' (record { how = 2; word = w; place = 0; level = level; steps = k })
     lands-value a h t = record { few = h; landing = (a, t) }
+
+    pub lands-thrown : {a p : ℕ} → Leaps ws D k hs room l f hs' room' level (Thrown a p) → k ≤ mostSteps
+        → Lands ws D top hs room l f hs' room' (record { how = 3; word = a; place = p; level = level; steps = k })
+    lands-thrown b h = record { few = h; landing = b }

@@ -5,6 +5,7 @@ pub mod Enters
 pub mod Backs
 -- Laws, which a reader need not believe: the checker does.
 pub mod LandsLaws
+pub mod SetLaws
 pub mod EnterLaps
 pub mod CallLaps
 pub mod BackLaps

@@ -1,10 +1,12 @@
 -- `leaps::back_leap` meets its contract.
 use Rattle.image.specs.Nodes.{kindOf, operands}
 use Rattle.leaps.proofs.back_leap.Statement.{statement}
-use Rattle.leaps.specs.BackLaps.{comes, few-nodes, fielded, first-node, get-field, inner-node, lands-none, long-room, loop-lands, second-node, seq-lands, set-field, test-node, try-lands}
+use Rattle.leaps.specs.BackLaps.{comes, fielded, first-node, get-field, inner-node, long-room, loop-lands, second-node, seq-lands, set-field, test-node, try-lands}
+use Rattle.leaps.specs.LandsLaws.{lands-still}
+use Rattle.memo.specs.MemoLaws.{node-small}
 use Rattle.quick.specs.KnownLaws.{stored, tabled}
 use Rattle.room.specs.Room.{shapeOf}
-use Rattle.room.specs.RoomLaws.{fit-variable, kept-refl}
+use Rattle.room.specs.RoomLaws.{fit-variable}
 use borrow.Author.Needs.{needs}
 use mathlib.Core.Logic.{inl, inr}
 use mathlib.Core.Path.{refl}
@@ -46,7 +48,7 @@ assign-requires c κs = (tabled (c .before .before .before .before .before .befo
 
 get-requires : tie.Need-get-requires
 unfolding shapeOf kindOf operands
-get-requires c κs = let f = get-field _ _ _ _ _ _ _ (comes (c .before .before .before .before .before .before .before .before .pre) 7 (c .before .match .keys4)) in (few-nodes (c .before .before .before .before .before .before .before .before .pre .0) _ (f .0), c .before .before .before .before .before .before .before .before .pre .1 .here, fielded (c .before .before .before .before .before .before .before .before .pre) _ f)
+get-requires c κs = let f = get-field _ _ _ _ _ _ _ (comes (c .before .before .before .before .before .before .before .before .pre) 7 (c .before .match .keys4)) in (node-small _ _ (c .before .before .before .before .before .before .before .before .pre .0) _ (f .0), c .before .before .before .before .before .before .before .before .pre .1 .here, fielded (c .before .before .before .before .before .before .before .before .pre) _ f)
 
 first-requires : tie.Need-first-requires
 unfolding shapeOf kindOf operands
@@ -113,7 +115,7 @@ slice-read-set c = search needs
 
 set-requires : tie.Need-set-requires
 unfolding shapeOf kindOf operands
-set-requires c κs = let k = comes (c .before .before .before .before .before .before .before .before .before .pre) 24 (c .before .before .match .keys14) in let f = set-field _ _ _ _ _ _ _ k in (few-nodes (c .before .before .before .before .before .before .before .before .before .pre .0) _ (f .0), second-node _ _ _ _ _ _ _ 24 refl k .1, fielded (c .before .before .before .before .before .before .before .before .before .pre) _ f)
+set-requires c κs = let k = comes (c .before .before .before .before .before .before .before .before .before .pre) 24 (c .before .before .match .keys14) in let f = set-field _ _ _ _ _ _ _ k in (node-small _ _ (c .before .before .before .before .before .before .before .before .before .pre .0) _ (f .0), second-node _ _ _ _ _ _ _ 24 refl k .1, fielded (c .before .before .before .before .before .before .before .before .before .pre) _ f)
 
 at-node-requires-2 : tie.Need-at-node-requires-2
 at-node-requires-2 c κs = search needs
@@ -191,7 +193,7 @@ returns-15 : tie.Need-returns-15
 returns-15 c = rw (c .at-node2 .ensures) (loop-lands _ _ _ _ _ _ _ (comes (c .before .before .before .before .before .before .before .before .pre) 29 (c .before .match .keys15)))
 
 returns-16 : tie.Need-returns-16
-returns-16 c = lands-none _ _ _ _ _ _ _ _ _ (c .none .ensures) (kept-refl _ _)
+returns-16 c = lands-still (c .none .ensures)
 
 pub back-leap-spec : {M : Type 1} → statement M
 back-leap-spec =

@@ -1,9 +1,9 @@
 -- `leaps::backs::assign` meets its contract.
 use Rattle.laws.specs.Tags.{tag-small}
 use Rattle.leaps.proofs.backs.assign.Statement.{statement}
-use Rattle.leaps.specs.BackLaps.{assign-lands, lands-none}
+use Rattle.leaps.specs.BackLaps.{assign-lands}
+use Rattle.leaps.specs.LandsLaws.{lands-still}
 use Rattle.room.specs.Nodes.{assign-local}
-use Rattle.room.specs.RoomLaws.{kept-refl}
 use borrow.Author.Needs.{needs}
 use native.Mathlib.Numerals.{add-one}
 use native.Mathlib.Omega.{arith}
@@ -25,7 +25,7 @@ none-requires : tie.Need-none-requires
 none-requires c κs = search needs
 
 returns : tie.Need-returns
-returns c = λ D hs k. lands-none _ D _ hs _ _ _ _ _ (c .none .ensures) (kept-refl _ _)
+returns c = λ D hs k. lands-still (c .none .ensures)
 
 add-room : tie.Need-add-room
 add-room c = omega (arith, tag-small _ (c .before .before .before .before .before .pre .3))

@@ -1,9 +1,9 @@
 -- `leaps::backs::choice` meets its contract.
 use Rattle.image.specs.Nodes.{kindOf, operands}
 use Rattle.leaps.proofs.backs.choice.Statement.{statement}
-use Rattle.leaps.specs.BackLaps.{else-lands, inner, lands-none, then-lands}
+use Rattle.leaps.specs.BackLaps.{else-lands, inner, then-lands}
+use Rattle.leaps.specs.LandsLaws.{lands-still}
 use Rattle.redexes.specs.RedexLaws.{if-otherwise, if-then}
-use Rattle.room.specs.RoomLaws.{kept-refl}
 use borrow.Author.Needs.{needs}
 use native.Mathlib.Omega.{arith}
 use Rattle.leaps.proofs.backs.choice.Tie as tie
@@ -41,7 +41,7 @@ none-requires : tie.Need-none-requires
 none-requires c κs = search needs
 
 returns-3 : tie.Need-returns-3
-returns-3 c = λ room D hs k. lands-none _ D _ hs room _ _ room _ (c .none .ensures) (kept-refl room _)
+returns-3 c = λ room D hs k. lands-still (c .none .ensures)
 
 pub choice-spec : {M : Type 1} → statement M
 choice-spec =

@@ -1,8 +1,8 @@
 -- `leaps::backs::first_of_pair` meets its contract.
 use Prim.Native.Nat.{_-_, suc}
 use Rattle.leaps.proofs.backs.first_of_pair.Statement.{statement}
-use Rattle.leaps.specs.BackLaps.{lands-none, pair-lands}
-use Rattle.room.specs.RoomLaws.{kept-refl}
+use Rattle.leaps.specs.BackLaps.{pair-lands}
+use Rattle.leaps.specs.LandsLaws.{lands-still}
 use borrow.Author.Needs.{needs}
 use mathlib.Core.List.{[]}
 use mathlib.Core.Logic.{inl}
@@ -38,7 +38,7 @@ same-length-2 : tie.Need-same-length-2
 same-length-2 c = search needs
 
 returns-2 : tie.Need-returns-2
-returns-2 c = λ D hs k. lands-none _ D _ hs _ _ _ _ _ (c .none .ensures) (kept-refl _ _)
+returns-2 c = λ D hs k. lands-still (c .none .ensures)
 
 sub-at-value : tie.Need-sub-at-value
 sub-at-value c = search needs

@@ -1,8 +1,8 @@
 -- `leaps::backs::get` meets its contract.
 use Rattle.leaps.proofs.backs.get.Statement.{statement}
-use Rattle.leaps.specs.BackLaps.{get-field, get-lands, lands-none, null-lands}
+use Rattle.leaps.specs.BackLaps.{get-field, get-lands, null-lands}
+use Rattle.leaps.specs.LandsLaws.{lands-still}
 use Rattle.objects.specs.SpotLaws.{spot-null}
-use Rattle.room.specs.RoomLaws.{kept-refl}
 use borrow.Author.Needs.{needs}
 use native.Mathlib.Omega.{arith}
 use Rattle.leaps.proofs.backs.get.Tie as tie
@@ -20,7 +20,7 @@ none-requires : tie.Need-none-requires
 none-requires c κs = search needs
 
 returns-2 : tie.Need-returns-2
-returns-2 c = λ ws m D room k. lands-none ws D _ _ room _ _ room _ (c .none .ensures) (kept-refl room _)
+returns-2 c = λ ws m D room k. lands-still (c .none .ensures)
 
 mul-at-value : tie.Need-mul-at-value
 mul-at-value c = let p = c .before .before .before .before .before .pre in omega (arith, (c .before .spot .ensures _ (p .2 .table) (p .2 .words) (p .2 .field) (c .if2 .left)) .inside)

@@ -1,8 +1,8 @@
 -- `leaps::backs::second_of_pair` meets its contract.
 use Prim.Native.Nat.{_-_, suc}
 use Rattle.leaps.proofs.backs.second_of_pair.Statement.{statement}
-use Rattle.leaps.specs.BackLaps.{lands-none, second-lands}
-use Rattle.room.specs.RoomLaws.{kept-refl}
+use Rattle.leaps.specs.BackLaps.{second-lands}
+use Rattle.leaps.specs.LandsLaws.{lands-still}
 use borrow.Author.Needs.{needs}
 use mathlib.Core.Path.{_≡_}
 use native.Mathlib.Omega.{arith}
@@ -15,7 +15,7 @@ none-requires : tie.Need-none-requires
 none-requires c κs = search needs
 
 returns : tie.Need-returns
-returns c = λ ws room p q D hs k. lands-none ws D _ hs room _ _ room _ (c .none .ensures) (kept-refl room _)
+returns c = λ ws room p q D hs k. lands-still (c .none .ensures)
 
 sub-at-value : tie.Need-sub-at-value
 sub-at-value c = search needs

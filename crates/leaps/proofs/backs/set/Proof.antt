@@ -1,7 +1,7 @@
 -- `leaps::backs::set` meets its contract.
 use Rattle.leaps.proofs.backs.set.Statement.{statement}
-use Rattle.leaps.specs.BackLaps.{lands-none, set-field, set-lands}
-use Rattle.room.specs.RoomLaws.{kept-refl}
+use Rattle.leaps.specs.BackLaps.{set-field, set-lands}
+use Rattle.leaps.specs.LandsLaws.{lands-still}
 use borrow.Author.Needs.{needs}
 use native.Mathlib.Omega.{arith}
 use Rattle.leaps.proofs.backs.set.Tie as tie
@@ -16,7 +16,7 @@ same-length : tie.Need-same-length
 same-length c = search needs
 
 returns : tie.Need-returns
-returns c = λ ws m D room k q. lands-none ws D _ _ room _ _ room _ (c .none .ensures) (kept-refl room _)
+returns c = λ ws m D room k q. lands-still (c .none .ensures)
 
 mul-heap : tie.Need-mul-heap
 mul-heap c = let p = c .before .before .before .before .before .pre in omega (arith, (c .before .spot .ensures _ (p .2 .table) (p .2 .words) (p .2 .field) (c .if1 .left)) .inside)

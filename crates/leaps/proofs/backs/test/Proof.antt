@@ -1,8 +1,8 @@
 -- `leaps::backs::test` meets its contract.
 use Rattle.leaps.proofs.backs.test.Statement.{statement}
-use Rattle.leaps.specs.BackLaps.{again-lands, lands-none, over-lands}
+use Rattle.leaps.specs.BackLaps.{again-lands, over-lands}
+use Rattle.leaps.specs.LandsLaws.{lands-still}
 use Rattle.redexes.specs.RedexLaws.{if-otherwise, if-then}
-use Rattle.room.specs.RoomLaws.{kept-refl}
 use borrow.Author.Needs.{needs}
 use native.Mathlib.Numerals.{add-one}
 use Rattle.leaps.proofs.backs.test.Tie as tie
@@ -53,7 +53,7 @@ none-requires : tie.Need-none-requires
 none-requires c κs = search needs
 
 returns-3 : tie.Need-returns-3
-returns-3 c = λ ws D hs k. lands-none ws D _ hs _ _ _ _ _ (c .none .ensures) (kept-refl _ _)
+returns-3 c = λ ws D hs k. lands-still (c .none .ensures)
 
 pub test-spec : {M : Type 1} → statement M
 test-spec =

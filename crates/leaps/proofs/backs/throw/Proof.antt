@@ -1,8 +1,8 @@
 -- `leaps::backs::throw` meets its contract.
 use Rattle.leaps.proofs.backs.throw.Statement.{statement}
-use Rattle.leaps.specs.BackLaps.{lands-none, throw-lands}
+use Rattle.leaps.specs.BackLaps.{throw-lands}
+use Rattle.leaps.specs.LandsLaws.{lands-still}
 use Rattle.redexes.specs.RedexLaws.{throw-address}
-use Rattle.room.specs.RoomLaws.{kept-refl}
 use borrow.Author.Needs.{needs}
 use Rattle.leaps.proofs.backs.throw.Tie as tie
 
@@ -16,7 +16,7 @@ none-requires : tie.Need-none-requires
 none-requires c κs = search needs
 
 returns-2 : tie.Need-returns-2
-returns-2 c = λ ws room D hs k. lands-none ws D _ hs room _ _ room _ (c .none .ensures) (kept-refl room _)
+returns-2 c = λ ws room D hs k. lands-still (c .none .ensures)
 
 pub throw-spec : {M : Type 1} → statement M
 throw-spec = tie.close (tie.spec at-thrown-requires returns none-requires returns-2)

@@ -2,9 +2,9 @@
 use Prim.Native.Nat.{_*_, _+_, _^_}
 use Rattle.image.specs.Nodes.{kindOf, operands}
 use Rattle.leaps.proofs.backs.unwind_try.Statement.{statement}
-use Rattle.leaps.specs.BackLaps.{catch-lands, inner, lands-none, pass-lands}
+use Rattle.leaps.specs.BackLaps.{catch-lands, inner, pass-lands}
+use Rattle.leaps.specs.LandsLaws.{lands-still}
 use Rattle.room.specs.Nodes.{try-local}
-use Rattle.room.specs.RoomLaws.{kept-refl}
 use borrow.Author.Needs.{needs}
 use native.Mathlib.Numerals.{add-one}
 use native.Mathlib.Omega.{arith}
@@ -63,7 +63,7 @@ returns-2 : tie.Need-returns-2
 returns-2 c = let p = c .before .before .before .before .before .before .before .before .before .before .before .before .before .pre in λ D q k. rw (c .at-node .ensures, c .before .before .before .push-block .ensures, c .before .before .before .before .before .word-at2 .ensures, c .before .before .before .before .before .before .word-at .ensures, add-one (c .before .before .before .before .before .before .before .before .before .before .before .before .before .args .i), add-one (4 * 2 ^ 32 + c .before .before .before .before .before .before .before .before .before .before .before .before .before .args .a)) (catch-lands _ D _ _ _ _ q _ k (c .before .before .before .before .before .before .before .before .caught .ensures _ (p .1) (p .2) (p .3) .1 (c .before .before .before .before .before .before .before .match .keys2)))
 
 returns-3 : tie.Need-returns-3
-returns-3 c = λ D q k. lands-none _ D _ _ _ _ _ _ _ (c .none .ensures) (kept-refl _ _)
+returns-3 c = λ D q k. lands-still (c .none .ensures)
 
 pub unwind-try-spec : {M : Type 1} → statement M
 unwind-try-spec =

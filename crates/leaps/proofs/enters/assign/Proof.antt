@@ -1,6 +1,7 @@
 -- `leaps::enters::assign` meets its contract.
 use Rattle.leaps.proofs.enters.assign.Statement.{statement}
-use Rattle.leaps.specs.EnterLaps.{after-first, assign-lands, first-one, neither, some-held}
+use Rattle.leaps.specs.EnterLaps.{after-first, assign-lands, first-one, some-held}
+use Rattle.quick.specs.KnownLaws.{both-held}
 use Rattle.room.specs.Nodes.{assign-local}
 use borrow.Author.Needs.{needs}
 use mathlib.Core.Logic.{inl}
@@ -51,7 +52,7 @@ same-length-2 : tie.Need-same-length-2
 same-length-2 c = search needs
 
 returns-2 : tie.Need-returns-2
-returns-2 c = let p = c .before .before .before .before .before .before .before .pre in λ hs k D inv h low. let z = neither _ _ (rw (c .before .before .before .before .word-at .ensures) at (c .before .before .if1 .left)) in rw (c .before .before .before .before .word-at .ensures, c .at-value .ensures) (assign-lands (p .0 .holds) inv h low (p .3) k (z .0) (z .1))
+returns-2 c = let p = c .before .before .before .before .before .before .before .pre in λ hs k D inv h low. let z = both-held _ _ (rw (c .before .before .before .before .word-at .ensures) at (c .before .before .if1 .left)) in rw (c .before .before .before .before .word-at .ensures, c .at-value .ensures) (assign-lands (p .0 .holds) inv h low (p .3) k (z .0) (z .1))
 
 pub assign-spec : {M : Type 1} → statement M
 assign-spec =
