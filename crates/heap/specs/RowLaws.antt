@@ -221,7 +221,7 @@ module _ (ws : List ℕ) (l : Layout) (g : Good ws l) where
         let all : soFar ws c i ≡ hasFields (program ws) s = rw (none, e) (append-nil _) in
         let k : m ≡ length (hasFields (program ws) s) = n ∙ u .count s b in
         record {
-          size = w .size ∙ u .type-size;
+          size = rw (w .size) (u .type-size);
           row =
               λ d q.
               record {
@@ -252,7 +252,7 @@ module _ (ws : List ℕ) (l : Layout) (g : Good ws l) where
           size = simp length-set (w .size);
           row = λ d y. row-kept (w .row d y) (few ws l g short d (omega arith)) c m t y;
           count = rw z (omega (arith, w .count, part-more c j e));
-          mine = rw z (rw (part-is c j e) (row-push (w .mine) (fieldAt ws j) t m (w .count) (omega (arith, w .size, g .small .classes, g .lay .class-count)) (field-type j t q)));
+          mine = rw z (rw (part-is c j e) (row-push (w .mine) (fieldAt ws j) t m (w .count) (omega (arith, w .size)) (field-type j t q)));
         }
 
     pub part-end : {counts old types : List ℕ} {c i e m : ℕ} → Upto ws counts old c i → 0 < c → c < classCount ws
@@ -291,7 +291,7 @@ module _ (ws : List ℕ) (l : Layout) (g : Good ws l) where
       ∙ own-none (program ws) 0 (fieldCount ws) (fieldAt ws)
       (λ k h e. omega (arith, field-open ws k (g .fields k h) .user))
 
-  pub upto-start : (counts types : List ℕ) → length counts ≡ mostClasses → length types ≡ rowWords * mostClasses
+  pub upto-start : (counts types : List ℕ) → length counts ≡ mostClasses → rowWords * classCount ws ≤ length types
       → Upto ws (set counts 0 0) types 1 0
   upto-start counts types n m =
       record {

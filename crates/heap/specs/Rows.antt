@@ -28,7 +28,7 @@ pub record Row (types : List ℕ) (c : ℕ) (fs : List Field) : Type 0 where
 
 pub record Rows (ws counts types : List ℕ) : Type 0 where
   pub sizes : Sizes ws counts
-  pub size : length types ≡ rowWords * mostClasses
+  pub size : rowWords * classCount ws ≤ length types
   pub row : (c : ℕ) → c < classCount ws → Row types c (hasFields (program ws) c)
 
 -- no record from i on is of a class below c
@@ -38,7 +38,7 @@ NoneBelow ws c i = (j : ℕ) → i ≤ j → j < fieldCount ws → c ≤ fieldWo
 -- The table while it is made. The rows below class c stand, and the fields below i are those of the classes below c.
 pub record Upto (ws counts types : List ℕ) (c i : ℕ) : Type 0 where
   pub count-size : length counts ≡ mostClasses
-  pub type-size : length types ≡ rowWords * mostClasses
+  pub type-size : rowWords * classCount ws ≤ length types
   pub count : (d : ℕ) → d < c → getD counts d 0 ≡ length (hasFields (program ws) d)
   pub row : (d : ℕ) → d < c → Row types d (hasFields (program ws) d)
   pub within : i ≤ fieldCount ws
@@ -68,7 +68,7 @@ soFar ws c j = hasFields (program ws) (superclass ws c) ++ own (program ws) (tab
 
 -- class c's row has these, m in number, and the rows below it stand
 pub record Part (ws types : List ℕ) (c j m : ℕ) : Type 0 where
-  pub size : length types ≡ rowWords * mostClasses
+  pub size : rowWords * classCount ws ≤ length types
   pub row : (d : ℕ) → d < c → Row types d (hasFields (program ws) d)
   pub count : m ≡ length (soFar ws c j)
   pub mine : Row types c (soFar ws c j)

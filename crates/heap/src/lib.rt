@@ -45,12 +45,12 @@ pub const OUT_OF_MEMORY: usize = 2;
 // Words of a class's row in the table of types: as many as a class may have fields.
 pub const ROW_WORDS: usize = 15;
 
-// Words of the table of types: a row for each of the 256 classes that an image may have.
+// Words of the table of types that any image's classes fit: a row for each of the 256 that one may have.
 pub const TABLE_WORDS: usize = 3840;
 
 // Class c's row begins as class s's does, with n types.
 fn copy_row(types: &mut [u32], s: usize, c: usize, n: usize)
-    requires { ⌜ (s < c) × (c < mostClasses) × (n ≤ mostFieldsAbove) × (length (now types) ≡ rowWords * mostClasses) ⌝ }
+    requires { ⌜ (s < c) × (c < mostClasses) × (n ≤ mostFieldsAbove) × (rowWords * (c + 1) ≤ length (now types)) ⌝ }
     ensures { λ _. ⌜ Copied (now (types .entry)) (now (types .exit)) s c n ⌝ }
 {
     let mut k = 0;
@@ -103,7 +103,7 @@ fn fill_row(
 
 // The table of every class's fields, in heap order: how many each class has, and their types.
 pub fn fill_rows(ws: &[u32], l: Layout, counts: &mut [usize], types: &mut [u32])
-    requires { ⌜ Good (now ws) l × (firstPlace (fieldsRule (now ws)) ≡ Nowhere) × (length (now counts) ≡ mostClasses) × (length (now types) ≡ rowWords * mostClasses) ⌝ }
+    requires { ⌜ Good (now ws) l × (firstPlace (fieldsRule (now ws)) ≡ Nowhere) × (length (now counts) ≡ mostClasses) × (rowWords * classCount (now ws) ≤ length (now types)) ⌝ }
     ensures { λ _. ⌜ Rows (now (ws .entry)) (now (counts .exit)) (now (types .exit)) ⌝ }
 {
     counts[0] = 0;

@@ -9,6 +9,10 @@ use Rattle.room.specs.Room.{searchWord}
 abbrev pub startWords : ℕ
 startWords = suc searchWord
 
+-- as many classes as the small table of types has rows for
+abbrev pub fewClasses : ℕ
+fewClasses = 16
+
 -- the first n words are 0
 pub record Zeros (room : List ℕ) (n : ℕ) : Type 0 where
   pub zero : (j : ℕ) → j < n → getD room j 0 ≡ 0

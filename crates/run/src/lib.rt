@@ -1,18 +1,19 @@
 // The third public question: the run of an image on a heap, with inputs, in lent room and within limits of steps and depth.
 ghost use mathlib.Core.Path.{_≡_};
-ghost use Prim.Native.Nat.{ℕ, _≤_, _<_};
+ghost use Prim.Native.Nat.{ℕ, _*_, _≤_, _<_};
 ghost use lib.ListN.{length, getD, replicate};
 ghost use Rattle.order.specs.Rules.{accepted, answerOf, firstPlace};
 ghost use Rattle.order.specs.declared.Found.the-variants.{Nowhere};
 ghost use Rattle.image.specs.Numbers.{mostInputs};
+ghost use Rattle.image.specs.Trailer.{classCount};
 ghost use Rattle.image.specs.Layout.{layoutRules, Good};
 ghost use Rattle.rules.specs.Run.{runOf};
 ghost use Rattle.rules.specs.Numbers.{fieldsRule, endNumbers};
 ghost use Rattle.laws.specs.Values.{IsValue};
-ghost use Rattle.heap.specs.Rows.{Sizes, Rows};
+ghost use Rattle.heap.specs.Rows.{rowWords, Sizes, Rows};
 ghost use Rattle.machine.specs.Finished.{Finishes};
 ghost use Rattle.run.specs.Answers.{refusalNumbers, endWord, toldOf, Answers};
-ghost use Rattle.run.specs.Start.{Zeros, Filled, startWords};
+ghost use Rattle.run.specs.Start.{Zeros, Filled, startWords, fewClasses};
 ghost use Rattle.run.specs.Judged.{Free, Judges};
 use heap::TABLE_WORDS;
 use image::Breach;
@@ -34,6 +35,11 @@ const MOST_DEPTH: u64 = 1024;
 const LEVEL_WORDS: usize = 16;
 
 const MORE_WORDS: usize = 160;
+
+// Most images have few classes. Their table of types is small, for a run must fill it with 0 first: a row for each of so many.
+const FEW_CLASSES: usize = 16;
+
+const FEW_WORDS: usize = 240;
 
 // What a run is refused for, numbers 1 to 10, 14 to 16, 19 and 20.
 pub enum Refusal {
@@ -149,6 +155,77 @@ fn run_clear(
     r
 }
 
+// The run of an image whose layout and fields are in order, with a lent table of types that has a row for each of its classes.
+fn run_tabled(
+    ws: &[u32],
+    l: Layout,
+    heap: &mut [u64],
+    inputs: &[u64],
+    room: &mut [u64],
+    steps: u64,
+    depth: u64,
+    types: &mut [u32],
+) -> Ran
+    requires { ⌜ Good (now ws) l × (accepted ≡ answerOf (layoutRules (now ws))) × (firstPlace (fieldsRule (now ws)) ≡ Nowhere) × (rowWords * classCount (now ws) ≤ length (now types)) ⌝ }
+    ensures { λ r. ⌜ Answers (now (ws .entry)) (now (heap .entry)) (now (inputs .entry)) (now (room .entry)) steps depth r (now (heap .exit)) (now (room .exit)) ⌝ }
+{
+    let mut counts: [usize; MOST_CLASSES] = [0; MOST_CLASSES];
+    heap::fill_rows(ws, l, &mut counts, types);
+    match judge(ws, l, &counts, heap, inputs, room.len(), depth) {
+        Judged::Against(f) => Ran::Refused(f),
+        Judged::Clear => {
+            let r = run_clear(
+                ws,
+                l,
+                &counts,
+                types,
+                heap,
+                inputs,
+                room,
+                steps,
+                depth as usize,
+            );
+            let end = r.end;
+            let count = r.count;
+            Ran::Ended(end, count)
+        },
+    }
+}
+
+// The run of an image with few classes: the table is small.
+fn run_few(
+    ws: &[u32],
+    l: Layout,
+    heap: &mut [u64],
+    inputs: &[u64],
+    room: &mut [u64],
+    steps: u64,
+    depth: u64,
+) -> Ran
+    requires { ⌜ Good (now ws) l × (accepted ≡ answerOf (layoutRules (now ws))) × (firstPlace (fieldsRule (now ws)) ≡ Nowhere) × (classCount (now ws) ≤ fewClasses) ⌝ }
+    ensures { λ r. ⌜ Answers (now (ws .entry)) (now (heap .entry)) (now (inputs .entry)) (now (room .entry)) steps depth r (now (heap .exit)) (now (room .exit)) ⌝ }
+{
+    let mut types: [u32; FEW_WORDS] = [0; FEW_WORDS];
+    run_tabled(ws, l, heap, inputs, room, steps, depth, &mut types)
+}
+
+// The run of an image with any number of classes.
+fn run_many(
+    ws: &[u32],
+    l: Layout,
+    heap: &mut [u64],
+    inputs: &[u64],
+    room: &mut [u64],
+    steps: u64,
+    depth: u64,
+) -> Ran
+    requires { ⌜ Good (now ws) l × (accepted ≡ answerOf (layoutRules (now ws))) × (firstPlace (fieldsRule (now ws)) ≡ Nowhere) ⌝ }
+    ensures { λ r. ⌜ Answers (now (ws .entry)) (now (heap .entry)) (now (inputs .entry)) (now (room .entry)) steps depth r (now (heap .exit)) (now (room .exit)) ⌝ }
+{
+    let mut types: [u32; TABLE_WORDS] = [0; TABLE_WORDS];
+    run_tabled(ws, l, heap, inputs, room, steps, depth, &mut types)
+}
+
 // The run of an image whose layout is in order.
 fn run_laid(
     ws: &[u32],
@@ -165,27 +242,10 @@ fn run_laid(
     if let Found::At(p) = classes::fields_place(ws, l) {
         return Ran::Refused(Refusal::Fields(p));
     }
-    let mut counts: [usize; MOST_CLASSES] = [0; MOST_CLASSES];
-    let mut types: [u32; TABLE_WORDS] = [0; TABLE_WORDS];
-    heap::fill_rows(ws, l, &mut counts, &mut types);
-    match judge(ws, l, &counts, heap, inputs, room.len(), depth) {
-        Judged::Against(f) => Ran::Refused(f),
-        Judged::Clear => {
-            let r = run_clear(
-                ws,
-                l,
-                &counts,
-                &types,
-                heap,
-                inputs,
-                room,
-                steps,
-                depth as usize,
-            );
-            let end = r.end;
-            let count = r.count;
-            Ran::Ended(end, count)
-        },
+    if l.class_count <= FEW_CLASSES {
+        run_few(ws, l, heap, inputs, room, steps, depth)
+    } else {
+        run_many(ws, l, heap, inputs, room, steps, depth)
     }
 }
 

@@ -5,12 +5,13 @@ use Rattle.heap.proofs.fill_row.Statement.{statement}
 use Rattle.heap.specs.RowLaws.{few, part-end, part-on, part-room, part-start}
 use Rattle.heap.specs.Rows.{Part}
 use borrow.Author.Needs.{needs}
-use mathlib.Core.Path.{_≡_, refl}
+use lib.ListN.{length, length-set}
+use mathlib.Core.Path.{_≡_, _∙_, refl}
 use native.Mathlib.Omega.{arith}
 use Rattle.heap.proofs.fill_row.Tie as tie
 
 abbrev Inv-loop : tie.InvT-loop
-Inv-loop ws l counts types₀ c i s m₀ end j₀ types m j = (i ≤ j) × Part ws types c j m × (j ≤ end)
+Inv-loop ws l counts types₀ c i s m₀ end j₀ types m j = (i ≤ j) × Part ws types c j m × (j ≤ end) × (length types ≡ length types₀)
 
 abbrev μ-loop : tie.MeasureT-loop
 μ-loop ws l counts types₀ c i s m₀ end j₀ types m j = end - j
@@ -28,13 +29,13 @@ slice-read-m : tie.Need-slice-read-m Inv-loop μ-loop
 slice-read-m c = let p = c .before .before .before .before .before .pre in let g = p .0 in let u = p .1 in let b = super-below _ _ g _ (p .3) (p .2) in let e = c .before .class-word .ensures in omega (arith, u .count-size, g .small .classes, g .lay .class-count, p .3)
 
 copy-row-requires : tie.Need-copy-row-requires Inv-loop μ-loop
-copy-row-requires c κs = let p = c .before .before .before .before .before .before .pre in let g = p .0 in let u = p .1 in let b = super-below _ _ g _ (p .3) (p .2) in let e = c .before .before .class-word .ensures in let k : c .before .before .class-word .result < c .before .before .before .before .before .before .args .c = omega arith in (k, omega (arith, g .small .classes, g .lay .class-count, p .3), rw (u .count _ k) (few _ _ g (p .4) _ (omega (arith, p .3))), u .type-size)
+copy-row-requires c κs = let p = c .before .before .before .before .before .before .pre in let g = p .0 in let u = p .1 in let b = super-below _ _ g _ (p .3) (p .2) in let e = c .before .before .class-word .ensures in let k : c .before .before .class-word .result < c .before .before .before .before .before .before .args .c = omega arith in (k, omega (arith, g .small .classes, g .lay .class-count, p .3), rw (u .count _ k) (few _ _ g (p .4) _ (omega (arith, p .3))), omega (arith, p .3, u .type-size))
 
 own-end-requires : tie.Need-own-end-requires Inv-loop μ-loop
 own-end-requires c κs = let p = c .before .before .before .before .before .before .before .before .before .pre in let g = p .0 in let u = p .1 in (g, omega (arith, u .within, g .lay .field-count), u .after)
 
 loop-holds : tie.Need-loop-holds Inv-loop μ-loop
-loop-holds c = let p = c .before .before .before .before .before .before .before .before .before .before .pre in let g = p .0 in let u = p .1 in (omega arith, part-start _ _ g (p .4) u (p .2) (p .3) (c .before .before .before .before .before .before .class-word .ensures) refl (c .before .before .before .copy-row .ensures), c .own-end .ensures .low)
+loop-holds c = let p = c .before .before .before .before .before .before .before .before .before .before .pre in let g = p .0 in let u = p .1 in (omega arith, part-start _ _ g (p .4) u (p .2) (p .3) (c .before .before .before .before .before .before .class-word .ensures) refl (c .before .before .before .copy-row .ensures), c .own-end .ensures .low, refl)
 
 field-word-requires : tie.Need-field-word-requires Inv-loop μ-loop
 field-word-requires c κs = let p = c .before .before .before .before .before .before .before .before .before .before .before .before .pre in let g = p .0 in let u = p .1 in let o = c .before .before .own-end .ensures .high in (g .lay, omega (arith, g .lay .field-count), omega arith)
@@ -61,7 +62,7 @@ loop-less : tie.Need-loop-less Inv-loop μ-loop
 loop-less c = search needs
 
 loop-again : tie.Need-loop-again Inv-loop μ-loop
-loop-again c = let p = c .before .before .before .before .before .before .before .before .before .before .before .before .before .pre in let g = p .0 in let u = p .1 in let o = c .before .before .before .own-end .ensures in let w = c .before .before .loop .inv .1 in let j = c .before .before .loop .j in let own = o .owned j (omega arith) (omega arith) in let r = part-room _ _ g (p .4) w (p .2) (p .3) (omega arith) own in (omega arith, part-on _ _ g (p .4) w (p .2) (p .3) (omega arith) own _ (c .field-word .ensures), omega arith)
+loop-again c = let p = c .before .before .before .before .before .before .before .before .before .before .before .before .before .pre in let g = p .0 in let u = p .1 in let o = c .before .before .before .own-end .ensures in let w = c .before .before .loop .inv .1 in let j = c .before .before .loop .j in let own = o .owned j (omega arith) (omega arith) in let r = part-room _ _ g (p .4) w (p .2) (p .3) (omega arith) own in (omega arith, part-on _ _ g (p .4) w (p .2) (p .3) (omega arith) own _ (c .field-word .ensures), omega arith, simp length-set (c .before .before .loop .inv .3))
 
 mul-counts : tie.Need-mul-counts Inv-loop μ-loop
 mul-counts c = let p = c .before .before .before .before .before .before .before .before .before .before .before .before .pre in let g = p .0 in let u = p .1 in omega (arith, g .small .classes, g .lay .class-count, p .3)
@@ -73,7 +74,7 @@ same-length : tie.Need-same-length Inv-loop μ-loop
 same-length c = search needs
 
 same-length-2 : tie.Need-same-length-2 Inv-loop μ-loop
-same-length-2 c = search needs
+same-length-2 c = c .before .loop .inv .3 ∙ c .before .before .before .before .before .copy-row .ensures .size
 
 returns : tie.Need-returns Inv-loop μ-loop
 returns c = let p = c .before .before .before .before .before .before .before .before .before .before .before .before .pre in let g = p .0 in let u = p .1 in let e : c .before .loop .j ≡ c .before .before .own-end .result = omega arith in part-end _ _ g (p .4) u (p .2) (p .3) (c .before .before .own-end .ensures) (rw e at (c .before .loop .inv .1))
