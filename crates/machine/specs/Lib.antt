@@ -3,4 +3,5 @@ pub mod Finished
 pub mod Reaches
 -- Laws.
 pub mod Runs
+pub mod NextLaws
 pub mod ReachLaws

@@ -17,12 +17,12 @@ use Rattle.room.specs.declared.Focus.{Focus}
 use Rattle.room.specs.declared.Focus.the-variants.{Thrown}
 use Rattle.room.specs.Room.{searchWord}
 use Rattle.room.specs.RoomLaws.{Kept}
-use Rattle.room.specs.Turn.{HeapOk, phi, whole, outside, Inv, Moves, Steps}
+use Rattle.room.specs.Turn.{HeapOk, phi, whole, outside, Inv}
 use Rattle.room.specs.Leads.{Leads, Leaps}
 use Rattle.room.specs.LeadsLaws.{leads-none, leads-on, leaps-on, leads-kept}
 use Rattle.leaps.specs.declared.Leap.{Leap}
 use Rattle.leaps.specs.Lands.{Landing, Lands}
-use Rattle.machine.specs.Runs.{bound, phi-low, Running, left, went-left, took-left}
+use Rattle.machine.specs.Runs.{bound, phi-low, Running, left}
 use Rattle.machine.specs.declared.Reached.{Reached}
 use Rattle.machine.specs.Reaches.{focusAt, Reaches}
 
@@ -165,20 +165,11 @@ module _ (ws : List ℕ) (good : (n : ℕ) → n < nodeCount ws → nodeHolds ws
       let e : steps - (steps - r .left) ≡ r .left = omega (arith, a .low) in
       rw e at (leads-less steps (a .leads) (omega arith))
 
-  -- less is left after a turn and leaps in a row
-  pub went-reaches-less : {limit count : ℕ} {hs room : List ℕ} {l : ℕ} {f : Focus} {room₁ : List ℕ} {l₁ : ℕ} {f₁ : Focus} {hs' room' : List ℕ} {r : Reached}
-      → Moves ws D room l f room₁ l₁ f₁ → Reaches ws D (limit - count) hs room₁ l₁ f₁ hs' room' r → count ≤ limit
-      → left ws D limit (limit - r .left) room' (r .level) (focusAt (r .how) (r .word) (r .place)) < left ws D limit count room l f
-  went-reaches-less {limit} {count} {room = room} {l} {f} {room₁} {l₁} {f₁} {r = r} m a h =
-      let e : limit - (limit - r .left) ≡ r .left = omega (arith, a .low) in
-      rw e (omega (arith, reaches-less a, went-left ws good D limit count room l f room₁ l₁ f₁ m))
-
-  pub took-reaches-less : {limit count : ℕ} {hs room : List ℕ} {l : ℕ} {f : Focus} {hs₁ room₁ : List ℕ} {l₁ : ℕ} {f₁ : Focus} {hs' room' : List ℕ} {r : Reached}
-      → Steps ws D hs room l f hs₁ room₁ l₁ f₁ → Reaches ws D (limit - (count + 1)) hs₁ room₁ l₁ f₁ hs' room' r → count < limit
-      → left ws D limit (limit - r .left) room' (r .level) (focusAt (r .how) (r .word) (r .place)) < left ws D limit count room l f
-  took-reaches-less {limit} {count} {room = room} {l} {f} {room₁ = room₁} {l₁} {f₁} {r = r} m a h =
-      let e : limit - (limit - r .left) ≡ r .left = omega (arith, a .low) in
-      rw e (omega (arith, reaches-less a, took-left ws good D limit count room l f room₁ l₁ f₁ h (m .inv)))
+  -- no more is left of a run after leaps in a row
+  pub led-less : (limit count : ℕ) {hs room : List ℕ} {l : ℕ} {f : Focus} {hs' room' : List ℕ} {r : Reached}
+      → Reaches ws D (limit - count) hs room l f hs' room' r
+      → left ws D limit (limit - r .left) room' (r .level) (focusAt (r .how) (r .word) (r .place)) ≤ left ws D limit count room l f
+  led-less limit count {r = r} a = let e : limit - (limit - r .left) ≡ r .left = omega (arith, a .low) in rw e (reaches-less a)
 
   -- a run goes on where leaps have come to
   module _ {limit : ℕ} {ended : Ended} {hs₀ room₀ hs room : List ℕ} {l : ℕ} {f : Focus} {count : ℕ}

@@ -13,7 +13,7 @@ ghost use Rattle.room.specs.declared.Focus.the-variants.{Node, Value as Word, T
 ghost use Rattle.room.specs.Room.{searchWord, Fit};
 ghost use Rattle.room.specs.Turn.{HeapOk, FocusOk, whole, outside, Inv, Turned};
 ghost use Rattle.memo.specs.Memo.{Memo};
-ghost use Rattle.machine.specs.Finished.{Finishes, endOf, sunkAt};
+ghost use Rattle.machine.specs.Finished.{Finishes, endOf, sunkAt, nextOf, endedAt};
 ghost use Rattle.machine.specs.Reaches.{focusAt, reachedAt, landedAt, Reaches};
 use image::Layout;
 use leaps::Leap;
@@ -397,6 +397,57 @@ fn final_end(f: Focus) -> End
     }
 }
 
+// What comes after a turn: the run goes on with a focus under so many frames, after so many steps, or it is at its end.
+enum Next {
+    On(Focus, usize, u64),
+    End,
+}
+
+fn next_of(g: Go, limit: u64, count: u64) -> Next
+    requires { ⌜ count ≤ limit ⌝ }
+    ensures { λ r. ⌜ r ≡ nextOf g limit count ⌝ }
+{
+    match g {
+        Go::Moved(f, l) => Next::On(f, l, count),
+        Go::Stepped(f, l) => {
+            if limit <= count {
+                return Next::End;
+            }
+            Next::On(f, l, count + 1)
+        },
+        Go::Limit => Next::End,
+        Go::Sunk => Next::End,
+        Go::Stuck(_) => Next::End,
+        Go::Deep => Next::End,
+        Go::Over => Next::End,
+    }
+}
+
+// An end after so many steps.
+fn over(end: End, count: u64) -> Finished
+    ensures { λ r. ⌜ r ≡ record { end = end; count = count } ⌝ }
+{
+    Finished {
+        end: end,
+        count: count,
+    }
+}
+
+// The end of a run whose last turn came to g, with the focus f.
+fn ended(g: Go, f: Focus, limit: u64, count: u64) -> Finished
+    ensures { λ r. ⌜ r ≡ endedAt g f limit count ⌝ }
+{
+    match g {
+        Go::Moved(_, _) => over(End::OutOfSteps, count),
+        Go::Stepped(_, _) => over(End::OutOfSteps, count),
+        Go::Limit => over(End::OutOfSteps, count),
+        Go::Sunk => sunk(limit, count),
+        Go::Stuck(q) => over(End::Stuck(q), count),
+        Go::Deep => over(End::TooDeep, count),
+        Go::Over => over(final_end(f), count),
+    }
+}
+
 // A run that has come to a focus under so many frames, in so many steps, with a table for lookups.
 fn run_with(
     ws: &[u32],
@@ -420,86 +471,18 @@ fn run_with(
     let mut count = taken;
     loop {
         learn(ws, lay, counts, heap, room, memo, level, focus);
-        match turn(
-            ws,
-            lay,
-            counts,
-            types,
-            heap,
-            room,
-            depth,
-            count < limit,
-            level,
-            focus,
-        ) {
-            Go::Moved(f, l) => {
-                let r = onward(
-                    ws,
-                    lay,
-                    counts,
-                    types,
-                    heap,
-                    room,
-                    memo,
-                    depth,
-                    f,
-                    l,
-                    limit - count,
-                );
+        let may = count < limit;
+        let g = turn(ws, lay, counts, types, heap, room, depth, may, level, focus);
+        match next_of(g, limit, count) {
+            Next::End => {
+                return ended(g, focus, limit, count);
+            },
+            Next::On(f, l, c) => {
+                let left = limit - c;
+                let r = onward(ws, lay, counts, types, heap, room, memo, depth, f, l, left);
                 focus = focus_of(r);
                 level = r.level;
                 count = limit - r.left;
-            },
-            Go::Stepped(f, l) => {
-                if limit <= count {
-                    return Finished {
-                        end: End::OutOfSteps,
-                        count: count,
-                    };
-                }
-                let r = onward(
-                    ws,
-                    lay,
-                    counts,
-                    types,
-                    heap,
-                    room,
-                    memo,
-                    depth,
-                    f,
-                    l,
-                    limit - (count + 1),
-                );
-                focus = focus_of(r);
-                level = r.level;
-                count = limit - r.left;
-            },
-            Go::Limit => {
-                return Finished {
-                    end: End::OutOfSteps,
-                    count: count,
-                };
-            },
-            Go::Sunk => {
-                return sunk(limit, count);
-            },
-            Go::Stuck(q) => {
-                return Finished {
-                    end: End::Stuck(q),
-                    count: count,
-                };
-            },
-            Go::Deep => {
-                return Finished {
-                    end: End::TooDeep,
-                    count: count,
-                };
-            },
-            Go::Over => {
-                return Finished {
-                    end: final_end(focus),
-                    count: count,
-                };
             },
         }
     }
