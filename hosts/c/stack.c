@@ -72,7 +72,8 @@ static void make(struct image *i, const struct way *w)
 static struct image image;
 static uint64_t heap[HEAP], room[ROOM], input = (uint64_t)MUTHAVERI_NULL << 32;
 
-static struct muthaveri_answer ask(size_t question)
+/* A function of its own, so that no argument of a question stays on the stack between painting and looking. */
+__attribute__((noinline)) static struct muthaveri_answer ask(size_t question)
 {
     switch (question) {
     case 0: return muthaveri_check(image.word, image.words);
