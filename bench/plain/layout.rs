@@ -217,7 +217,7 @@ fn heap_words(image: &Image, classes: &Classes, heap: &[u64]) -> Result<(), Refu
         return Err((14, 0));
     }
     for (a, slot) in heap.chunks_exact(16).enumerate() {
-        if slot.iter().fold(0, |all, w| all | w) == 0 {
+        if slot[0] == 0 && slot.iter().fold(0, |all, w| all | w) == 0 {
             continue;
         }
         if slot[0] > image.classes.len() as u64 {

@@ -1,5 +1,5 @@
 -- Laws of 14, 15 and 16: a scan whose earlier places all held, a slot's word by cases, and the inputs.
-use mathlib.Core.Path.{_≡_, refl}
+use mathlib.Core.Path.{_≡_, refl, sym, _∙_}
 use mathlib.Core.Bool.{Bool, true, false, cond}
 use mathlib.Core.List.{List}
 use mathlib.Core.Logic.{⊎-elim}
@@ -7,7 +7,8 @@ use Prim.Native.Nat.{ℕ, zero, suc, _+_, _*_, _-_, _/_, _%_, _≤_, _<_, max}
 use native.Mathlib.Omega.{arith}
 use lib.Dec.{eqb, leb, ltb}
 use lib.ListN.{length, getD}
-use borrow.Author.Tests.{leb-true, eq-eqb, ne-eqb, eqb-true, eqb-false, lt-ltb, le-ltb}
+use lib.Bits.{bitOr, or-add-and, and-le-l, and-le-r}
+use borrow.Author.Tests.{leb-true, le-leb, eq-eqb, ne-eqb, eqb-true, eqb-false, lt-ltb, le-ltb}
 use Rattle.order.specs.Rules.{scan, firstPlace}
 use Rattle.order.specs.Scan.{Still, start, on, hit, none}
 use Rattle.order.specs.Lowest.{held}
@@ -17,26 +18,51 @@ use Rattle.image.specs.Trailer.{classCount, inputCount}
 use Rattle.rules.specs.Program.{Program, program}
 use Rattle.rules.specs.Classes.{hasFields}
 use Rattle.rules.specs.Heap.{slotWords}
-use Rattle.rules.specs.Numbers.{slotWordHolds, slotFirst, heapWordRule, inputHolds, inputRule}
+use Rattle.rules.specs.Numbers.{mostFieldsAbove, slotWordHolds, slotFirst, heapWordRule, inputHolds, inputRule}
 use Rattle.classes.specs.Search.{lt-or-ge}
 use Rattle.heap.specs.Rows.{Sizes}
+use Rattle.heap.specs.Slots.{ZerosAt, ValuesAt, SlotHolds, Clean}
 
--- a scan that stands at i: every place below it held
-pub record Clean (p : ℕ → Bool) (n i : ℕ) : Type 0 where
-  pub still : Still p n i
-  pub passed : (j : ℕ) → j < i → p j ≡ true
+-- Nothing is said of a test that fails.
+pub unsaid : {A : Type 0} → false ≡ true → A
+unsaid e = absurd (let z : _≡_ {A = ℕ} 0 1 = cc in omega arith)
 
+-- What holds below k, and at k, holds below the next.
+each-on : {P : ℕ → Type 0} {k : ℕ} → ((j : ℕ) → j < k → P j) → P k → (j : ℕ) → j < k + 1 → P j
+each-on {P} {k} below at j l =
+    ⊎-elim (λ (z : j < k). below j z) (λ (z : k ≤ j). let y : j ≡ k = omega arith in rw y at) (lt-or-ge j k)
+
+-- A scan, by one place and by several.
 pub clean-start : (p : ℕ → Bool) (n : ℕ) → Clean p n 0
 clean-start p n = record { still = start p n; passed = λ j h. absurd (omega arith) }
 
 pub clean-on : {p : ℕ → Bool} {n i : ℕ} → Clean p n i → i < n → p i ≡ true → Clean p n (i + 1)
 clean-on {p} {n} {i} s h e =
-    record {
-      still = on (s .still) h e;
-      passed =
-          λ j l.
-          ⊎-elim (λ (z : j < i). s .passed j z) (λ (z : i ≤ j). let y : j ≡ i = omega arith in rw y e) (lt-or-ge j i);
-    }
+    record { still = on (s .still) h e; passed = each-on {P = λ (j : ℕ). p j ≡ true} (s .passed) e }
+
+pub clean-far : {p : ℕ → Bool} {n i : ℕ} (m : ℕ) → Clean p n i → i + m ≤ n → ((k : ℕ) → k < m → p (i + k) ≡ true) → Clean p n (i + m)
+clean-far {p} {n} {i} zero s h e = let y : i + 0 ≡ i = omega arith in rw y s
+clean-far {p} {n} {i} (suc m) s h e =
+    let y : i + suc m ≡ i + m + 1 = omega arith in
+    rw y (clean-on (clean-far m s (omega arith) (λ k l. e k (omega arith))) (omega arith) (e m (omega arith)))
+
+-- Words that were joined are all 0 where what they came to is.
+or-none : (a b : ℕ) → bitOr a b ≡ 0 → (a ≡ 0) × (b ≡ 0)
+or-none a b e =
+    let s = or-add-and a b in
+    let l = and-le-l a b in
+    let r = and-le-r a b in (
+      omega (arith, e, s, l, r),
+      omega (arith, e, s, l, r),
+    )
+
+pub zeros-on : (hs : List ℕ) (i k d : ℕ) → (d ≡ 0 → ZerosAt hs i k) → bitOr d (getD hs (i + k) 0) ≡ 0 → ZerosAt hs i (k + 1)
+zeros-on hs i k d z e =
+    let b = or-none d (getD hs (i + k) 0) e in
+    each-on {P = λ (j : ℕ). getD hs (i + j) 0 ≡ 0} (z (b .0)) (b .1)
+
+pub values-on : (hs : List ℕ) (i k : ℕ) → ValuesAt hs i k → isIs (valueOf (getD hs (i + k) 0)) ≡ true → ValuesAt hs i (k + 1)
+values-on hs i k z e = each-on {P = λ (j : ℕ). isIs (valueOf (getD hs (i + j) 0)) ≡ true} z e
 
 -- A word by cases.
 pub word-first : (P : Program) (classes first k word : ℕ) → k ≡ 0 → leb first classes ≡ slotWordHolds P classes first k word
@@ -69,6 +95,48 @@ word-rest P classes (suc c) (suc j) word n m h =
     let q : suc c - 1 ≡ c = omega arith in
     rw (le-ltb j (length (hasFields P c)) (rw (p, q) at h))
 
+-- A whole slot: one that is free, and one of a known class with n fields.
+module _ (ws hs : List ℕ) (i : ℕ) (e : i % slotWords ≡ 0) where
+  at-slot : (k : ℕ) → k < slotWords
+      → heapWordRule ws hs .holds (i + k) ≡ slotWordHolds (program ws) (classCount ws) (getD hs i 0) k (getD hs (i + k) 0)
+  unfolding heapWordRule
+  at-slot k h =
+      let p : slotWords * ((i + k) / slotWords) ≡ i = omega arith in
+      let q : (i + k) % slotWords ≡ k = omega arith in
+      rw (p, q)
+
+  first-holds : getD hs i 0 ≤ classCount ws → heapWordRule ws hs .holds (i + 0) ≡ true
+  first-holds h = at-slot 0 (omega arith) ∙ sym (word-first (program ws) (classCount ws) (getD hs i 0) 0 (getD hs (i + 0) 0) refl) ∙ le-leb _ _ h
+
+  pub free-slot : getD hs i 0 ≡ 0 → ZerosAt hs i slotWords → SlotHolds ws hs i
+  free-slot f z zero h = first-holds (omega (arith, f))
+  free-slot f z (suc j) h =
+      at-slot (suc j) h ∙ sym (word-free (program ws) (classCount ws) _ (suc j) _ (λ d. omega (arith, d)) f)
+      ∙ eq-eqb _ 0 (z (suc j) h)
+
+  pub used-slot : (getD hs i 0 ≡ 0 → ⊥) → getD hs i 0 ≤ classCount ws → (n : ℕ) → n ≡ length (hasFields (program ws) (getD hs i 0 - 1))
+      → ValuesAt hs (i + 1) n
+      → ZerosAt hs (i + 1 + n) (slotWords - 1 - n)
+      → SlotHolds ws hs i
+  used-slot f c n m v z zero h = first-holds c
+  used-slot f c n m v z (suc j) h = at-slot (suc j) h ∙ ⊎-elim value rest (lt-or-ge j n)
+    where
+      later : suc j ≡ 0 → ⊥
+      later d = omega (arith, d)
+
+      value : j < n → slotWordHolds (program ws) (classCount ws) (getD hs i 0) (suc j) (getD hs (i + suc j) 0) ≡ true
+      value l =
+          let y : i + suc j ≡ i + 1 + j = omega arith in
+          let b : isIs (valueOf (getD hs (i + suc j) 0)) ≡ true = rw y (v j l) in
+          sym (word-value (program ws) (classCount ws) (getD hs i 0) (suc j) (getD hs (i + suc j) 0) later f (omega (arith, m))) ∙ b
+
+      rest : n ≤ j → slotWordHolds (program ws) (classCount ws) (getD hs i 0) (suc j) (getD hs (i + suc j) 0) ≡ true
+      rest l =
+          let y : i + suc j ≡ i + 1 + n + (j - n) = omega arith in
+          let b : getD hs (i + suc j) 0 ≡ 0 = rw y (z (j - n) (omega arith)) in
+          sym (word-rest (program ws) (classCount ws) (getD hs i 0) (suc j) (getD hs (i + suc j) 0) later f (omega (arith, m)))
+          ∙ eq-eqb _ 0 b
+
 -- the first word of a slot was looked at before the others
 pub first-known : (ws hs : List ℕ) (i : ℕ) → ((j : ℕ) → j < i → heapWordRule ws hs .holds j ≡ true) → (i % slotWords ≡ 0 → ⊥)
     → slotFirst hs i ≤ classCount ws
@@ -84,6 +152,10 @@ first-known ws hs i h n =
 pub class-count : {ws counts : List ℕ} (first : ℕ) → Sizes ws counts → first ≤ classCount ws → (first ≡ 0 → ⊥)
     → getD counts (first - 1) 0 ≡ length (hasFields (program ws) (first - 1))
 class-count first s h n = s .count (first - 1) (omega arith)
+
+pub count-few : {ws counts : List ℕ} (first : ℕ) → Sizes ws counts → first ≤ classCount ws → (first ≡ 0 → ⊥)
+    → getD counts (first - 1) 0 ≤ mostFieldsAbove
+count-few first s h n = rw (class-count first s h n) (s .few (first - 1) (omega arith))
 
 -- Inputs: below main's count each that is there is a value,
 pub input-below : (count : ℕ) (is : List ℕ) (i : ℕ) → i < count

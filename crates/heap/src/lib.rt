@@ -19,7 +19,7 @@ ghost use Rattle.rules.specs.Heap.{default, slotWords};
 ghost use Rattle.rules.specs.Numbers.{mostFieldsAbove, fieldsRule, slotFirst, heapLengthHolds, heapWordRule, inputRule};
 ghost use Rattle.laws.specs.Heap.{place};
 ghost use Rattle.heap.specs.Rows.{rowWords, Sizes, Rows, Upto, Copied, NoneBelow, OwnFields};
-ghost use Rattle.heap.specs.Slots.{takenAt};
+ghost use Rattle.heap.specs.Slots.{takenAt, ZerosAt, ValuesAt, SlotHolds, Clean};
 use classes::Members;
 use classes::Seen;
 use image::Layout;
@@ -230,12 +230,57 @@ fn heap_word_holds(ws: &[u32], l: Layout, counts: &[usize], heap: &[u64], i: usi
     }
 }
 
-// 15: the first heap word of no known class, no value, or not 0 where it should be.
-pub fn heap_word_place(ws: &[u32], l: Layout, counts: &[usize], heap: &[u64]) -> Found
-    requires { ⌜ Good (now ws) l × Sizes (now ws) (now counts) ⌝ }
+// Whether the n words from i on are all 0. All are read before it is asked, so that a processor can read several at once.
+fn zeros(heap: &[u64], i: usize, n: usize) -> bool
+    requires { ⌜ i + n ≤ length (now heap) ⌝ }
+    ensures { λ r. ⌜ (r ≡ true → ZerosAt (now (heap .entry)) i n) ⌝ }
+{
+    let mut digits = 0;
+    let mut k = 0;
+    while k < n {
+        digits = digits | heap[i + k];
+        k += 1;
+    }
+    digits == 0
+}
+
+// Whether the n words from i on all stand for values.
+fn values(heap: &[u64], i: usize, n: usize) -> bool
+    requires { ⌜ i + n ≤ length (now heap) ⌝ }
+    ensures { λ r. ⌜ (r ≡ true → ValuesAt (now (heap .entry)) i n) ⌝ }
+{
+    let mut k = 0;
+    while k < n {
+        if !is_value_word(heap[i + k]) {
+            return false;
+        }
+        k += 1;
+    }
+    true
+}
+
+// 15: all words of the slot that begins at word i.
+fn slot_holds(ws: &[u32], l: Layout, counts: &[usize], heap: &[u64], i: usize) -> bool
+    requires { ⌜ Good (now ws) l × Sizes (now ws) (now counts) × (i % slotWords ≡ 0) × (i + slotWords ≤ length (now heap)) ⌝ }
+    ensures { λ r. ⌜ (r ≡ true → SlotHolds (now (ws .entry)) (now (heap .entry)) i) ⌝ }
+{
+    let first = heap[i];
+    if first == 0 {
+        return zeros(heap, i, SLOT_WORDS);
+    }
+    if (l.class_count as u64) < first {
+        return false;
+    }
+    let n = counts[(first - 1) as usize];
+    values(heap, i + 1, n) && zeros(heap, i + 1 + n, ROW_WORDS - n)
+}
+
+// 15: the first heap word of no known class, no value, or not 0 where it should be, if there is none before word `from`.
+fn word_place(ws: &[u32], l: Layout, counts: &[usize], heap: &[u64], from: usize) -> Found
+    requires { ⌜ Good (now ws) l × Sizes (now ws) (now counts) × Clean (heapWordRule (now ws) (now heap) .holds) (length (now heap)) from ⌝ }
     ensures { λ r. ⌜ r ≡ firstPlace (heapWordRule (now (ws .entry)) (now (heap .entry))) ⌝ }
 {
-    let mut i = 0;
+    let mut i = from;
     while i < heap.len() {
         if !heap_word_holds(ws, l, counts, heap, i) {
             return Found::At(i);
@@ -243,6 +288,22 @@ pub fn heap_word_place(ws: &[u32], l: Layout, counts: &[usize], heap: &[u64]) ->
         i += 1;
     }
     Found::Nowhere
+}
+
+// 15: slots that hold are passed over whole; in the first that does not, the word is sought.
+pub fn heap_word_place(ws: &[u32], l: Layout, counts: &[usize], heap: &[u64]) -> Found
+    requires { ⌜ Good (now ws) l × Sizes (now ws) (now counts) ⌝ }
+    ensures { λ r. ⌜ r ≡ firstPlace (heapWordRule (now (ws .entry)) (now (heap .entry))) ⌝ }
+{
+    let slots = heap.len() / SLOT_WORDS;
+    let mut a = 0;
+    while a < slots {
+        if !slot_holds(ws, l, counts, heap, SLOT_WORDS * a) {
+            return word_place(ws, l, counts, heap, SLOT_WORDS * a);
+        }
+        a += 1;
+    }
+    word_place(ws, l, counts, heap, SLOT_WORDS * a)
 }
 
 // Input i is a value, if there is one.

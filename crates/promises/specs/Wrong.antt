@@ -75,12 +75,13 @@ module _ (p : Runner) (keeps : Keeps p) where
   filled : objectsLeft ≡ objects → ⊥
   unfolding heap objects objectsLeft
   filled e =
-      let d : 6 ≡ 0 = ap (λ (hs : List ℕ). getD hs 64 0) e in
+      let d : _≡_ {A = ℕ} 6 0 = ap (λ (hs : List ℕ). getD hs 64 0) e in
       omega (arith, d)
 
   pub not-always-out-of-steps : AlwaysOutOfSteps p → ⊥
+  unfolding endNumbers
   not-always-out-of-steps w =
-      let d : 30 ≡ 32 = ap (λ (e : End). endNumbers e .number) (w _ _ _ _ _ _ _ _ (bench-same .0)) in
+      let d : _≡_ {A = ℕ} 30 32 = ap (λ (e : End). endNumbers e .number) (w _ _ _ _ _ _ _ _ (bench-same .0)) in
       omega (arith, d)
 
   pub not-never-touching : NeverTouchesTheHeap p → ⊥
@@ -91,5 +92,5 @@ module _ (p : Runner) (keeps : Keeps p) where
 
   pub not-invented : InventsTheCount p → ⊥
   not-invented w =
-      let d : 5 ≡ 11 = w .1 _ _ _ _ _ _ _ _ (bench-same .0) ∙ sym (w .1 _ _ _ _ _ _ _ _ (orders-same .0)) in
+      let d : _≡_ {A = ℕ} 5 11 = w .1 _ _ _ _ _ _ _ _ (bench-same .0) ∙ sym (w .1 _ _ _ _ _ _ _ _ (orders-same .0)) in
       omega (arith, d)

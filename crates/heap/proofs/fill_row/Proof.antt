@@ -6,7 +6,7 @@ use Rattle.heap.specs.RowLaws.{few, part-end, part-on, part-room, part-s
 use Rattle.heap.specs.Rows.{Part}
 use borrow.Author.Needs.{needs}
 use lib.ListN.{length, length-set}
-use mathlib.Core.Path.{_≡_, _∙_, refl}
+use mathlib.Core.Path.{_∙_, _≡_, refl}
 use native.Mathlib.Omega.{arith}
 use Rattle.heap.proofs.fill_row.Tie as tie
 

@@ -6,7 +6,7 @@ use Rattle.heap.specs.Rows.{Upto}
 use Rattle.image.specs.Trailer.{classCount}
 use borrow.Author.Needs.{needs}
 use lib.ListN.{length}
-use mathlib.Core.Path.{_≡_, _∙_, refl}
+use mathlib.Core.Path.{_∙_, _≡_, refl}
 use native.Mathlib.Omega.{arith}
 use Rattle.heap.proofs.fill_rows.Tie as tie
 
