@@ -22,76 +22,79 @@ use image::Kind;
 use image::Layout;
 use order::Found;
 
-// The variables that are surely set. A set goes in by value, and each method hands back the new one.
+// The variables that are surely set: variable x where binary digit x is 1. A set goes in by value, and each method hands back the new one.
 pub struct Vars {
-    pub on: [bool; 64],
+    pub on: u64,
 }
 
 impl Vars {
     pub fn none() -> Self
         ensures { λ r. ⌜ varsOf r ≡ noVar ⌝ }
     {
-        Vars { on: [false; 64] }
+        Vars { on: 0 }
     }
 
     pub fn all() -> Self
         ensures { λ r. ⌜ varsOf r ≡ everyVar ⌝ }
     {
-        Vars { on: [true; 64] }
+        Vars {
+            on: 18446744073709551615,
+        }
     }
 
     pub fn between(from: usize, to: usize) -> Self
         requires { ⌜ to < variables ⌝ }
         ensures { λ r. ⌜ varsOf r ≡ Setting·between from to ⌝ }
     {
-        let mut on = [false; 64];
-        let mut i = 0;
-        while i < 64 {
-            on[i] = (from <= i) & (i <= to);
+        let mut set = Vars::none();
+        let mut i = from;
+        while i <= to {
+            set = set.with(i);
             i += 1;
         }
-        Vars { on }
+        set
     }
 
     pub fn has(self, x: usize) -> bool
         requires { ⌜ x < variables ⌝ }
         ensures { λ r. ⌜ r ≡ varsOf self x ⌝ }
     {
-        self.on[x]
+        (self.on >> x) % 2 == 1
     }
 
     pub fn with(self, x: usize) -> Self
         requires { ⌜ x < variables ⌝ }
         ensures { λ r. ⌜ varsOf r ≡ upd (varsOf self) x true ⌝ }
     {
-        self.put(x, true)
+        Vars {
+            on: self.on | (1 << x),
+        }
     }
 
     pub fn without(self, x: usize) -> Self
         requires { ⌜ x < variables ⌝ }
         ensures { λ r. ⌜ varsOf r ≡ upd (varsOf self) x false ⌝ }
     {
-        self.put(x, false)
+        let digit = 1 << x;
+        Vars {
+            on: (self.on | digit) ^ digit,
+        }
     }
 
     // Gives a variable back the standing that it had.
-    pub fn put(mut self, x: usize, b: bool) -> Self
+    pub fn put(self, x: usize, b: bool) -> Self
         requires { ⌜ x < variables ⌝ }
         ensures { λ r. ⌜ varsOf r ≡ upd (varsOf self) x b ⌝ }
     {
-        self.on[x] = b;
-        self
+        if b { self.with(x) } else { self.without(x) }
     }
 
-    pub fn meet(mut self, other: Vars) -> Self
+    pub fn meet(self, other: Vars) -> Self
         ensures { λ r. ⌜ varsOf r ≡ Setting·meet (varsOf self) (varsOf other) ⌝ }
     {
-        let mut i = 0;
-        while i < 64 {
-            self.on[i] = self.on[i] & other.on[i];
-            i += 1;
+        Vars {
+            on: self.on & other.on,
         }
-        self
     }
 }
 
