@@ -9,8 +9,8 @@
  *     Where the length is 0 nothing is read or written, and the pointer may be null; with any other length it may not.
  *   - muthaveri_run writes its heap and its room. Neither may overlap the other, the image or the inputs, and no other thread may read
  *     or write them during the call. What is only read may overlap and may be shared.
- *   - The stack is large enough. muthaveri_check goes down the trees of an image by calls, about 1 KiB a level: 4.33 million bytes
- *     were measured for the deepest tree there can be, 4,096 nodes one above the other. Have 5 MiB free, in a thread of your own too.
+ *   - The stack is large enough. muthaveri_check goes down the trees of an image by calls, about 500 bytes a level: 2.04 million bytes
+ *     were measured for the deepest tree there can be, 4,096 nodes one above the other. Have 3 MiB free, in a thread of your own too.
  *     The two others take the same whatever the image is: 19 KiB were measured, have 64 KiB free.
  *
  * What is promised. Words may be any words, and limits any numbers: each call returns, and its answer is the one that the definitions

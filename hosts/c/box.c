@@ -24,8 +24,8 @@
 /* No longer file is read. The longest image has 109 KiB, the longest heap 512 KiB. */
 #define MOST_BYTES ((size_t)1 << 20)
 
-/* The check of the deepest tree takes 4.33 million bytes of stack. Arguments and environment may have taken a quarter before. */
-#define STACK_BYTES ((rlim_t)6 << 20)
+/* The check of the deepest tree takes 2.04 million bytes of stack. Arguments and environment may have taken a quarter before. */
+#define STACK_BYTES ((rlim_t)4 << 20)
 
 /* The limits where none are given. */
 #define USUAL_STEPS 1000000
@@ -293,7 +293,7 @@ static bool stack_is_enough(void)
     struct rlimit stack;
 
     if (getrlimit(RLIMIT_STACK, &stack) == 0 && stack.rlim_cur != RLIM_INFINITY && stack.rlim_cur < STACK_BYTES)
-        return complain("stack", "limited to less than 6 MiB, which a deep image may need (ulimit -s)");
+        return complain("stack", "limited to less than 4 MiB, which a deep image may need (ulimit -s)");
     return true;
 }
 

@@ -1,7 +1,7 @@
 /*
  * How much stack each question takes: images are asked about whose trees are as deep as each kind of node allows, with a stack that was
  * painted before. Prints the most bytes of each question; the exit status is 1 where include/muthaveri.h asks hosts for less.
- * The main thread's stack must have 7 MiB.
+ * The main thread's stack must have 5 MiB.
  */
 #include "muthaveri.h"
 
@@ -10,10 +10,10 @@
 #include <stdlib.h>
 #include <string.h>
 
-enum { NODES = 4096, HEAP = 64, ROOM = 16 * 1024 + 160, PAINTED = 6 << 20, PAINT = 0xa5 };
+enum { NODES = 4096, HEAP = 64, ROOM = 16 * 1024 + 160, PAINTED = 4 << 20, PAINT = 0xa5 };
 
 /* What the header says that a host has to have free. */
-enum { CHECK_BYTES = 5 << 20, OTHER_BYTES = 64 << 10 };
+enum { CHECK_BYTES = 3 << 20, OTHER_BYTES = 64 << 10 };
 
 /* A way to go down: a kind of node, and a leaf before or after the operand that goes on. */
 struct way {

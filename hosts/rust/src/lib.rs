@@ -4,8 +4,8 @@
 //! asked about: no image, heap, input or limit is wrong to pass, and none makes the library fail.
 //!
 //! What the host owes:
-//! - Stack. The check goes down an image's trees by calls, about 1 KiB a level and 4.3 MiB for the deepest tree there can be. A thread of
-//!   Rust's has 2 MiB unless told otherwise: give one that checks images of strangers 8 MiB (`std::thread::Builder::stack_size`).
+//! - Stack. The check goes down an image's trees by calls, about 500 bytes a level and 2 MiB for the deepest tree there can be. A thread of
+//!   Rust's has 2 MiB unless told otherwise: give one that checks images of strangers 4 MiB (`std::thread::Builder::stack_size`).
 //! - Only after `check` and `conform` accepted is a run kept from ending stuck, and only with the very image, heap and inputs that they
 //!   saw. `run` asks neither for types nor for initialized variables.
 //! - After such a run the heap conforms again. Before the next one, a host asks `conform` about the new inputs, and about what it wrote
