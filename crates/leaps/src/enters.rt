@@ -22,6 +22,9 @@ ghost use Rattle.leaps.specs.Enters.{Holds, Enters, First, Asked, Whole,
 use crate::Leap;
 use image::Layout;
 use order::Found;
+use quick::ADD;
+use quick::EQ;
+use quick::GET;
 use quick::Quick;
 use room::ADDRESS;
 use room::FRAME_WORDS;
@@ -230,7 +233,14 @@ fn argument(ws: &[u32], nodes: usize, heap: &[u64], room: &[u64], memo: &[u64], 
     if h != 0 {
         return q;
     }
-    quick::shallow(ws, nodes, room, heap, memo, m)
+    let kind = quick::word_at(ws, nodes, m, 0);
+    if (kind == ADD) | (kind == EQ) {
+        return quick::pair_at(ws, nodes, room, kind, m);
+    }
+    if kind == GET {
+        return quick::get_at(ws, nodes, room, heap, memo, m);
+    }
+    q
 }
 
 // The operands of a Call with y arguments, from the last to the receiver: their values are written into the words of frame l. The

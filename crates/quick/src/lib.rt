@@ -28,11 +28,11 @@ const LITERAL: u32 = 2;
 
 const VAR: u32 = 3;
 
-const ADD: u32 = 4;
+pub const ADD: u32 = 4;
 
-const EQ: u32 = 5;
+pub const EQ: u32 = 5;
 
-const GET: u32 = 7;
+pub const GET: u32 = 7;
 
 // Word k of node n.
 pub fn word_at(ws: &[u32], nodes: usize, n: usize, k: usize) -> u32
@@ -130,25 +130,34 @@ pub fn leaf(ws: &[u32], nodes: usize, room: &[u64], n: usize) -> Quick
     }
 }
 
-// A leaf, a field of one, or a sum or comparison of two.
-pub fn shallow(
-    ws: &[u32],
-    nodes: usize,
-    room: &[u64],
-    heap: &[u64],
-    memo: &[u64],
-    n: usize,
-) -> Quick
+// The Add or Eq at node n, of two leaves.
+pub fn pair_at(ws: &[u32], nodes: usize, room: &[u64], kind: u32, n: usize) -> Quick
+    requires { ⌜ Tabled (now ws) nodes × IsNode (now ws) n kind × IsPair kind × Stored (now ws) (now room) ⌝ }
+    ensures { λ r. ⌜ ((hs : List ℕ) → Known (now (ws .entry)) hs (now (room .entry)) n 1 r) ⌝ }
+{
+    let a = leaf(ws, nodes, room, first_of_two(ws, nodes, n));
+    pair(kind, a, leaf(ws, nodes, room, n - 1))
+}
+
+// The Get at node n, of a leaf.
+pub fn get_at(ws: &[u32], nodes: usize, room: &[u64], heap: &[u64], memo: &[u64], n: usize) -> Quick
+    requires { ⌜ Tabled (now ws) nodes × IsNode (now ws) n 7 × Stored (now ws) (now room) × Words (program (now ws)) (classCount (now ws)) (now heap) × Memo (now ws) (now memo) ⌝ }
+    ensures { λ r. ⌜ Known (now (ws .entry)) (now (heap .entry)) (now (room .entry)) n 1 r ⌝ }
+{
+    field(ws, heap, memo, n, leaf(ws, nodes, room, n - 1))
+}
+
+// A leaf, a field of one, or a sum or comparison of two. It is called from one place, so that it becomes a part of what calls it.
+fn shallow(ws: &[u32], nodes: usize, room: &[u64], heap: &[u64], memo: &[u64], n: usize) -> Quick
     requires { ⌜ Tabled (now ws) nodes × (n < nodeCount (now ws)) × Stored (now ws) (now room) × Words (program (now ws)) (classCount (now ws)) (now heap) × Memo (now ws) (now memo) ⌝ }
     ensures { λ r. ⌜ Known (now (ws .entry)) (now (heap .entry)) (now (room .entry)) n 1 r ⌝ }
 {
     let kind = word_at(ws, nodes, n, 0);
     if (kind == ADD) | (kind == EQ) {
-        let a = leaf(ws, nodes, room, first_of_two(ws, nodes, n));
-        return pair(kind, a, leaf(ws, nodes, room, n - 1));
+        return pair_at(ws, nodes, room, kind, n);
     }
     if kind == GET {
-        return field(ws, heap, memo, n, leaf(ws, nodes, room, n - 1));
+        return get_at(ws, nodes, room, heap, memo, n);
     }
     leaf(ws, nodes, room, n)
 }
