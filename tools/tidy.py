@@ -7,8 +7,10 @@ Each file gets a first line that says whose proof it is. Run `rt fmt` afterwards
 import glob, re, sys
 
 def used(name, body):
-    plain = [p for p in name.split('_') if p] if '_' in name and name != '_' else [name]
-    return all(re.search(r'(?<![^\s(){}.,;@])%s(?![^\s(){}.,;@])' % re.escape(p), body) for p in plain)
+    def stands(word):
+        return re.search(r'(?<![^\s(){}.,;@])%s(?![^\s(){}.,;@])' % re.escape(word), body)
+    # an operator is named whole before its operands, and by its parts between them
+    return stands(name) or ('_' in name and name != '_' and all(stands(p) for p in name.split('_') if p))
 
 def tidy(path):
     crate, fn = re.match(r'.*crates/([^/]+)/proofs/(.+)/Proof\.antt$', path).groups()
