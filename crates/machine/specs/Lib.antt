@@ -1,7 +1,4 @@
--- The run as a loop of turns.
-pub mod Finished
-pub mod Reaches
--- Laws.
+-- The run as a loop of turns and strides: laws alone.
 pub mod Runs
 pub mod NextLaws
-pub mod ReachLaws
+pub mod LedLaws

@@ -1,5 +1,5 @@
 -- Laws of what comes after a turn: the run goes on, or it is at its end.
-use mathlib.Core.Path.{_≡_, refl, sym, _∙_, ap}
+use mathlib.Core.Path.{_≡_, refl, ap}
 use mathlib.Core.Bool.{Bool, true, false, cond}
 use mathlib.Core.List.{List}
 use Prim.Native.Nat.{ℕ, _+_, _≤_, _<_}
@@ -14,10 +14,10 @@ use Rattle.room.specs.declared.Focus.{Focus}
 use Rattle.room.specs.declared.Go.{Go}
 use Rattle.room.specs.declared.Go.the-variants.{Moved, Stepped, Limit, Sunk, Stuck, Deep, Over}
 use Rattle.room.specs.Turn.{Turned}
-use Rattle.machine.specs.declared.Finished.{Finished}
-use Rattle.machine.specs.declared.Next.{Next}
-use Rattle.machine.specs.declared.Next.the-variants.{On}
-use Rattle.machine.specs.Finished.{Finishes, nextOf, endedAt}
+use Rattle.ends.specs.declared.Finished.{Finished}
+use Rattle.ends.specs.declared.Next.{Next}
+use Rattle.ends.specs.declared.Next.the-variants.{On}
+use Rattle.ends.specs.Finished.{Finishes, nextOf, endedAt}
 use Rattle.machine.specs.Runs.{Running, left, went, went-left, took, took-left, could, full, halted, sunk, sunk-answer, over-answer}
 
 module _ (ws : List ℕ) (good : (n : ℕ) → n < nodeCount ws → nodeHolds ws n ≡ true) (D : ℕ) {limit : ℕ} {ended : Ended} {hs₀ room₀ hs room : List ℕ}

@@ -2,8 +2,8 @@
 use mathlib.Core.Path.{_≡_, refl, sym, _∙_, ap}
 use mathlib.Core.Bool.{Bool, true, false}
 use mathlib.Core.List.{List}
-use Prim.Native.Nat.{ℕ, zero, suc, _+_, _*_, _-_, _%_, _^_, _≤_, _<_}
-use native.Mathlib.Nat.{mul-le-mul-right, suc-mul}
+use Prim.Native.Nat.{ℕ, suc, _+_, _*_, _-_, _%_, _^_, _≤_, _<_}
+use native.Mathlib.Nat.{suc-mul}
 use native.Mathlib.Omega.{arith}
 use lib.Dec.{ltb}
 use lib.ListN.{length, getD}
@@ -16,22 +16,18 @@ use Rattle.rules.specs.Program.{program}
 use Rattle.rules.specs.Heap.{heapOf}
 use Rattle.rules.specs.Run.{Ended, run, heapAfter}
 use Rattle.laws.specs.Values.{valueAt}
-use Rattle.laws.specs.Trees.{node-size}
 use Rattle.laws.specs.Frames.{plugs}
 use Rattle.laws.specs.Heap.{words-heap}
 use Rattle.room.specs.declared.Focus.{Focus}
 use Rattle.room.specs.declared.Focus.the-variants.{Node, Value, Thrown}
-use Rattle.room.specs.Room.{searchWord, Shape, first, second, operands as calls, block, test, loop, nothing, shapeOf, word, tag, kept, frames, FrameOk, Fit}
+use Rattle.room.specs.Room.{searchWord, frames}
 use Rattle.room.specs.Stack.{Halts, Beyond, run-goes, run-full, run-halts, run-beyond, run-value, run-thrown}
-use Rattle.room.specs.Turn.{HeapOk, focusOf, FocusOk, Final, weight, behind, pending, phi, whole, outside, finds, Inv, Moves, Steps, Could, Sinks}
-use Rattle.machine.specs.declared.Finished.{Finished}
-use Rattle.machine.specs.Finished.{Finishes, endOf, sunkAt}
+use Rattle.room.specs.Turn.{HeapOk, focusOf, Final, phi, whole, outside, finds, Inv, Moves, Steps, Could, Sinks}
+use Rattle.strides.specs.Bound.{bound, phi-low}
+use Rattle.ends.specs.declared.Finished.{Finished}
+use Rattle.ends.specs.Finished.{Finishes, endOf, sunkAt}
 
 module _ (ws : List ℕ) (D : ℕ) where
-  -- Moves end: what they have still to go through is below a bound.
-  abbrev pub bound : ℕ
-  bound = 2 * (suc D * nodeCount ws) + 2 * nodeCount ws + 4
-
   pub record Running (limit : ℕ) (ended : Ended) (hs₀ room₀ hs room : List ℕ) (l : ℕ) (f : Focus) (count : ℕ) : Type 0 where
     pub inv : Inv ws D room l f
     pub heap : HeapOk ws hs (getD room searchWord 0)
@@ -42,41 +38,9 @@ module _ (ws : List ℕ) (D : ℕ) where
 
   -- what falls from turn to turn
   abbrev pub left : (limit count : ℕ) (room : List ℕ) (l : ℕ) (f : Focus) → ℕ
-  left limit count room l f = (limit - count) * bound + phi ws room l f
+  left limit count room l f = (limit - count) * bound ws D + phi ws room l f
 
 module _ (ws : List ℕ) (good : (n : ℕ) → n < nodeCount ws → nodeHolds ws n ≡ true) (D : ℕ) where
-  behind-low : (s : Shape) (t p a c : ℕ) (words : ℕ → ℕ) → FrameOk ws s t p a c words → behind ws s t p a ≤ nodeCount ws
-  unfolding behind
-  behind-low first t p a c words o = omega (arith, o .0)
-  behind-low second t p a c words o = omega arith
-  behind-low calls t p a c words o = omega (arith, o .0 .0)
-  behind-low block t p a c words o = omega arith
-  behind-low test t p a c words o = omega arith
-  behind-low loop t p a c words o = omega (arith, o .0, node-size ws p (good p (o .0)))
-  behind-low nothing t p a c words o = omega arith
-
-  pending-low : (room : List ℕ) (l : ℕ) → Fit ws room l → pending ws room l ≤ l * nodeCount ws
-  unfolding pending
-  pending-low room zero f = omega arith
-  pending-low room (suc i) f =
-      let g : Fit ws room i = record { long = omega (arith, f .long); frame-ok = λ j h. f .frame-ok j (omega arith); held-ok = f .held-ok } in
-      let e : suc i * nodeCount ws ≡ nodeCount ws + i * nodeCount ws = omega arith in
-      rw e
-      (omega (arith, pending-low room i g, behind-low (shapeOf (tag ws room i)) (tag ws room i) (word ws room i 1) (word ws room i 2) (word ws room i 4) (kept ws room i) (f .frame-ok i (omega arith))))
-
-  weight-low : (f : Focus) → FocusOk ws f → weight ws f ≤ 2 * nodeCount ws + 3
-  unfolding weight
-  weight-low (Node n) h = omega (arith, node-size ws n (good n h))
-  weight-low (Value w) h = omega arith
-  weight-low (Thrown a p) h = omega arith
-
-  times-low : (l n : ℕ) → l ≤ suc D → l * n ≤ suc D * n
-  times-low l n h = mul-le-mul-right n h
-
-  pub phi-low : (room : List ℕ) (l : ℕ) (f : Focus) → Inv ws D room l f → phi ws room l f < bound ws D
-  phi-low room l f v =
-      omega (arith, pending-low room l (v .fit), weight-low f (v .here), times-low l (nodeCount ws) (v .level))
-
   pub went-left : (limit count : ℕ) (room : List ℕ) (l : ℕ) (f : Focus) (room' : List ℕ) (l' : ℕ) (f' : Focus)
       → Moves ws D room l f room' l' f' → left ws D limit count room' l' f' < left ws D limit count room l f
   went-left limit count room l f room' l' f' m = omega (arith, m .falls)
@@ -86,7 +50,7 @@ module _ (ws : List ℕ) (good : (n : ℕ) → n < nodeCount ws → nodeHolds ws
       → left ws D limit (count + 1) room' l' f' < left ws D limit count room l f
   took-left limit count room l f room' l' f' h v =
       let e : limit - count ≡ suc (limit - (count + 1)) = omega arith in
-      rw (e, suc-mul (limit - (count + 1)) (bound ws D)) (omega (arith, phi-low room' l' f' v))
+      rw (e, suc-mul (limit - (count + 1)) (bound ws D)) (omega (arith, phi-low ws good D room' l' f' v))
 
   module _ {limit : ℕ} {ended : Ended} {hs₀ room₀ hs room : List ℕ} {l : ℕ} {f : Focus} {count : ℕ}
       (r : Running ws D limit ended hs₀ room₀ hs room l f count) where

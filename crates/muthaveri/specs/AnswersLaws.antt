@@ -5,11 +5,12 @@ use mathlib.Core.List.{List}
 use Prim.Native.Nat.{ℕ}
 use lib.Dec.{eqb}
 use borrow.Author.Tests.{ne-eqb}
-use Rattle.run.specs.declared.Refusal.{Refusal}
+use Rattle.refusals.specs.declared.Refusal.{Refusal}
 use Rattle.run.specs.declared.Told.{Told}
 use Rattle.run.specs.declared.Ran.{Ran}
 use Rattle.run.specs.declared.Ran.the-variants.{Refused, Ended as Over}
-use Rattle.run.specs.Answers.{refusalNumbers, toldOf, Answers}
+use Rattle.refusals.specs.Refusals.{refusalNumbers}
+use Rattle.run.specs.Answers.{toldOf, Answers}
 use Rattle.run.specs.Promise.{never-accepted}
 use Rattle.muthaveri.specs.declared.MuthaveriAnswer.{MuthaveriAnswer}
 use Rattle.muthaveri.specs.Answers.{checkAnswer, conformAnswer, runAnswer, heapLeft, roomLeft, RunAnswers}

@@ -28,7 +28,7 @@ use Rattle.conform.specs.Answers.{conformedNumbers}
 use Rattle.run.specs.declared.Ran.{Ran}
 use Rattle.run.specs.declared.Ran.the-variants.{Refused, Ended as Over}
 use Rattle.run.specs.Answers.{ranNumbers, toldOf, Answers}
-use Rattle.run.specs.Laws.{depth-fine}
+use Rattle.refusals.specs.JudgedLaws.{depth-fine}
 use Rattle.run.specs.Promise.{never-accepted, count-within}
 
 -- The answers of an image check and of a conformity check keep their promises, and both accept.

@@ -5,27 +5,17 @@ use Prim.Native.Nat.{ℕ}
 use lib.ListN.{length, replicate}
 use Rattle.order.specs.Rules.{accepted, answerOf}
 use Rattle.order.specs.declared.Answer.{Answer}
-use Rattle.image.specs.Layout.{breachNumbers}
 use Rattle.words.specs.declared.Value.the-variants.{Addr}
 use Rattle.words.specs.Value.{wordOf}
 use Rattle.rules.specs.declared.End.{End}
 use Rattle.rules.specs.declared.End.the-variants.{Returned, Threw, OutOfSteps, TooDeep, Stuck}
 use Rattle.rules.specs.Run.{runOf, heapAfter}
 use Rattle.rules.specs.Numbers.{runRules, endNumbers}
-use Rattle.run.specs.declared.Refusal.{Refusal}
-use Rattle.run.specs.declared.Refusal.the-variants.{Layout, Fields, HeapLength, HeapWord, Input, Depth, Room}
+use Rattle.refusals.specs.Refusals.{refusalNumbers}
+use Rattle.refusals.specs.declared.Refusal.{Refusal}
 use Rattle.run.specs.declared.Told.{Told}
 use Rattle.run.specs.declared.Ran.{Ran}
 use Rattle.run.specs.declared.Ran.the-variants.{Refused, Ended as Over}
-
-abbrev pub refusalNumbers : Refusal → Answer
-refusalNumbers (Layout b) = breachNumbers b
-refusalNumbers (Fields p) = record { number = 10; place = p }
-refusalNumbers HeapLength = record { number = 14; place = 0 }
-refusalNumbers (HeapWord p) = record { number = 15; place = p }
-refusalNumbers (Input p) = record { number = 16; place = p }
-refusalNumbers Depth = record { number = 19; place = 0 }
-refusalNumbers Room = record { number = 20; place = 0 }
 
 abbrev pub ranNumbers : Ran → Answer
 ranNumbers (Refused f) = refusalNumbers f

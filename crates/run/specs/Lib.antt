@@ -1,7 +1,6 @@
--- The answers to a run, and the room as it begins.
+-- The answers to a run.
 pub mod Answers
-pub mod Start
-pub mod Judged
+pub mod Few
 -- Laws.
 pub mod Laws
 pub mod Promise

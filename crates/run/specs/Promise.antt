@@ -22,11 +22,12 @@ use Rattle.rules.specs.Step.{load}
 use Rattle.rules.specs.Run.{runOf}
 use Rattle.rules.specs.Numbers.{fieldsRule, heapLengthRule, heapWordRule, inputRule, depthRule, roomRule, runRules}
 use Rattle.reduction.specs.RunLaws.{run-runs, counted}
-use Rattle.run.specs.declared.Refusal.{Refusal}
-use Rattle.run.specs.declared.Refusal.the-variants.{Layout, Fields, HeapLength, HeapWord, Input, Depth, Room}
+use Rattle.refusals.specs.declared.Refusal.{Refusal}
+use Rattle.refusals.specs.declared.Refusal.the-variants.{Layout, Fields, HeapLength, HeapWord, Input, Depth, Room}
 use Rattle.run.specs.declared.Ran.{Ran}
 use Rattle.run.specs.declared.Ran.the-variants.{Refused, Ended as Over}
-use Rattle.run.specs.Answers.{refusalNumbers, Refuses, Ends, Answers}
+use Rattle.refusals.specs.Refusals.{refusalNumbers}
+use Rattle.run.specs.Answers.{Refuses, Ends, Answers}
 
 rising : (ws hs is : List ℕ) (room depth : ℕ) → Rising 0 (runRules ws hs is room depth)
 unfolding runRules layoutRules recordRules formatRule trailerRule ceilingRule classRule fieldRule methodRule typeRule nodeRule bodyRule tested fieldsRule heapLengthRule heapWordRule inputRule depthRule roomRule

@@ -1,136 +1,39 @@
 // The third public question: the run of an image on a heap, with inputs, in lent room and within limits of steps and depth.
 ghost use mathlib.Core.Path.{_≡_};
-ghost use Prim.Native.Nat.{ℕ, _*_, _≤_, _<_};
-ghost use lib.ListN.{length, getD, replicate};
+ghost use Prim.Native.Nat.{_*_, _≤_, _<_};
+ghost use lib.ListN.{length, replicate};
 ghost use Rattle.order.specs.Rules.{accepted, answerOf, firstPlace};
 ghost use Rattle.order.specs.declared.Found.the-variants.{Nowhere};
-ghost use Rattle.image.specs.Numbers.{mostInputs};
 ghost use Rattle.image.specs.Trailer.{classCount};
 ghost use Rattle.image.specs.Layout.{layoutRules, Good};
 ghost use Rattle.rules.specs.Run.{runOf};
 ghost use Rattle.rules.specs.Numbers.{fieldsRule, endNumbers};
-ghost use Rattle.laws.specs.Values.{IsValue};
-ghost use Rattle.heap.specs.Rows.{rowWords, Sizes, Rows};
-ghost use Rattle.machine.specs.Finished.{Finishes};
-ghost use Rattle.run.specs.Answers.{refusalNumbers, endWord, toldOf, Answers};
-ghost use Rattle.run.specs.Start.{Zeros, Filled, startWords, fewClasses};
-ghost use Rattle.run.specs.Judged.{Free, Judges};
+ghost use Rattle.heap.specs.Rows.{rowWords, Rows};
+ghost use Rattle.ends.specs.Finished.{Finishes};
+ghost use Rattle.run.specs.Answers.{endWord, toldOf, Answers};
+ghost use Rattle.run.specs.Few.{fewClasses};
+ghost use Rattle.refusals.specs.Judged.{Free};
+use ends::Finished;
 use heap::TABLE_WORDS;
-use image::Breach;
 use image::Laid;
 use image::Layout;
 use image::MOST_CLASSES;
-use machine::Finished;
 use order::Answer;
 use order::Found;
+use refusals::Judged;
+use refusals::Refusal;
 use rules::End;
 use words::Value;
-
-// The words that hold variables, and the one behind them that says where New goes on to look.
-const START_WORDS: usize = 65;
-
-// The bounds of a depth limit, and the room that one asks for.
-const MOST_DEPTH: u64 = 1024;
-
-const LEVEL_WORDS: usize = 16;
-
-const MORE_WORDS: usize = 160;
 
 // Most images have few classes. Their table of types is small, for a run must fill it with 0 first: a row for each of so many.
 const FEW_CLASSES: usize = 16;
 
 const FEW_WORDS: usize = 240;
 
-// What a run is refused for, numbers 1 to 10, 14 to 16, 19 and 20.
-pub enum Refusal {
-    Layout(Breach),
-    Fields(usize),
-    HeapLength,
-    HeapWord(usize),
-    Input(usize),
-    Depth,
-    Room,
-}
-
 // The answer to a run: a refusal, or how it ended and how many steps it took.
 pub enum Ran {
     Refused(Refusal),
     Ended(End, u64),
-}
-
-// Whether anything stands against the run of an image whose layout and fields are in order.
-pub enum Judged {
-    Against(Refusal),
-    Clear,
-}
-
-// All words become 0.
-fn clear(words: &mut [u64])
-    ensures { λ _. ⌜ now (words .exit) ≡ replicate (length (now (words .entry))) 0 ⌝ }
-{
-    let mut i = 0;
-    while i < words.len() {
-        words[i] = 0;
-        i += 1;
-    }
-}
-
-// The first words become 0: no variable is set, and New begins at slot 0.
-fn clear_start(room: &mut [u64])
-    requires { ⌜ startWords ≤ length (now room) ⌝ }
-    ensures { λ _. ⌜ Zeros (now (room .exit)) startWords × (length (now (room .exit)) ≡ length (now (room .entry))) ⌝ }
-{
-    let mut i = 0;
-    while i < START_WORDS {
-        room[i] = 0;
-        i += 1;
-    }
-}
-
-// The inputs become variables, from 1 on.
-fn set_inputs(room: &mut [u64], inputs: &[u64])
-    requires { ⌜ (startWords ≤ length (now room)) × Zeros (now room) startWords × (length (now inputs) ≤ mostInputs) × ((k : ℕ) → k < length (now inputs) → IsValue (getD (now inputs) k 0)) ⌝ }
-    ensures { λ _. ⌜ Filled (now (inputs .entry)) (now (room .exit)) (length (now (inputs .entry))) × (length (now (room .exit)) ≡ length (now (room .entry))) ⌝ }
-{
-    let mut i = 0;
-    while i < inputs.len() {
-        room[i + 1] = inputs[i] + 1;
-        i += 1;
-    }
-}
-
-// 14, 15, 16, 19 and 20, in this order.
-fn judge(
-    ws: &[u32],
-    l: Layout,
-    counts: &[usize],
-    heap: &[u64],
-    inputs: &[u64],
-    room: usize,
-    depth: u64,
-) -> Judged
-    requires { ⌜ Good (now ws) l × Sizes (now ws) (now counts) ⌝ }
-    ensures { λ r. ⌜ Judges (now (ws .entry)) (now (heap .entry)) (now (inputs .entry)) room depth r ⌝ }
-{
-    if !heap::heap_length_holds(heap.len()) {
-        return Judged::Against(Refusal::HeapLength);
-    }
-    if let Found::At(p) = heap::heap_word_place(ws, l, counts, heap) {
-        return Judged::Against(Refusal::HeapWord(p));
-    }
-    if let Found::At(p) = heap::input_place(ws, l, inputs) {
-        return Judged::Against(Refusal::Input(p));
-    }
-    if depth < 1 {
-        return Judged::Against(Refusal::Depth);
-    }
-    if MOST_DEPTH < depth {
-        return Judged::Against(Refusal::Depth);
-    }
-    if room < LEVEL_WORDS * depth as usize + MORE_WORDS {
-        return Judged::Against(Refusal::Room);
-    }
-    Judged::Clear
 }
 
 // The run of an image that nothing stands against.
@@ -148,10 +51,10 @@ fn run_clear(
     requires { ⌜ Good (now ws) l × Rows (now ws) (now counts) (now types) × (firstPlace (fieldsRule (now ws)) ≡ Nowhere) × Free (now ws) (now heap) (now inputs) (length (now room)) depth ⌝ }
     ensures { λ r. ⌜ Finishes (runOf (now (ws .entry)) (now (heap .entry)) (now (inputs .entry)) steps depth) r (now (heap .exit)) × (now (room .exit) ≡ replicate (length (now (room .entry))) 0) ⌝ }
 {
-    clear_start(room);
-    set_inputs(room, inputs);
+    start::clear_start(room);
+    start::set_inputs(room, inputs);
     let r = machine::run_on(ws, l, counts, types, heap, room, depth, steps, l.main);
-    clear(room);
+    start::clear(room);
     r
 }
 
@@ -171,7 +74,7 @@ fn run_tabled(
 {
     let mut counts: [usize; MOST_CLASSES] = [0; MOST_CLASSES];
     heap::fill_rows(ws, l, &mut counts, types);
-    match judge(ws, l, &counts, heap, inputs, room.len(), depth) {
+    match refusals::judge(ws, l, &counts, heap, inputs, room.len(), depth) {
         Judged::Against(f) => Ran::Refused(f),
         Judged::Clear => {
             let r = run_clear(
@@ -276,39 +179,6 @@ pub struct Told {
     pub value: u64,
 }
 
-// The number and place of a refusal.
-fn refusal_answer(f: Refusal) -> Answer
-    ensures { λ r. ⌜ r ≡ refusalNumbers f ⌝ }
-{
-    match f {
-        Refusal::Layout(b) => image::breach_answer(b),
-        Refusal::Fields(p) => Answer {
-            number: 10,
-            place: p as u64,
-        },
-        Refusal::HeapLength => Answer {
-            number: 14,
-            place: 0,
-        },
-        Refusal::HeapWord(p) => Answer {
-            number: 15,
-            place: p as u64,
-        },
-        Refusal::Input(p) => Answer {
-            number: 16,
-            place: p as u64,
-        },
-        Refusal::Depth => Answer {
-            number: 19,
-            place: 0,
-        },
-        Refusal::Room => Answer {
-            number: 20,
-            place: 0,
-        },
-    }
-}
-
 // The number and place of an end.
 fn end_answer(e: End) -> Answer
     ensures { λ r. ⌜ r ≡ endNumbers e ⌝ }
@@ -356,7 +226,7 @@ pub fn numbers_of(a: Ran) -> Told
 {
     match a {
         Ran::Refused(f) => {
-            let n = refusal_answer(f);
+            let n = refusals::refusal_answer(f);
             Told {
                 number: n.number,
                 place: n.place,

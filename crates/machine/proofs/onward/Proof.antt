@@ -1,12 +1,12 @@
-use Rattle.machine.specs.ReachLaws.{onward-start}
+use Rattle.strides.specs.ReachLaws.{onward-start}
 use borrow.Author.Needs.{needs}
 use Rattle.machine.proofs.onward.Statement.{statement}
 use Rattle.machine.proofs.onward.Tie as tie
 use Rattle.machine.proofs.onward.Reads as reads
 use Rattle.machine.proofs.onward.Lts as lts
-use Rattle.machine.proofs.at_thrown.Reads as at-thrown-reads
-use Rattle.machine.proofs.at_value.Reads as at-value-reads
-use Rattle.machine.proofs.strides.Reads as strides-reads
+use Rattle.strides.proofs.at_thrown.Reads as at-thrown-reads
+use Rattle.strides.proofs.at_value.Reads as at-value-reads
+use Rattle.strides.proofs.strides.Reads as strides-reads
 
 -- src/lib.rt:351:21
 enum-known-f : tie.Need-enum-known-f

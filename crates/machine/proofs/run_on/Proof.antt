@@ -1,14 +1,14 @@
 use native.Mathlib.Omega.{arith}
 use mathlib.Core.Path.{_∙_}
-use Rattle.machine.specs.ReachLaws.{blank, blank-memo, reaches-run}
+use Rattle.machine.specs.LedLaws.{blank, blank-memo, reaches-run}
 use borrow.Author.Needs.{needs}
 use Rattle.machine.proofs.run_on.Statement.{statement}
 use Rattle.machine.proofs.run_on.Tie as tie
 use Rattle.machine.proofs.run_on.Reads as reads
 use Rattle.machine.proofs.run_on.Lts as lts
-use Rattle.machine.proofs.focus_of.Reads as focus-of-reads
+use Rattle.strides.proofs.focus_of.Reads as focus-of-reads
 use Rattle.machine.proofs.run_with.Reads as run-with-reads
-use Rattle.machine.proofs.strides.Reads as strides-reads
+use Rattle.strides.proofs.strides.Reads as strides-reads
 
 -- src/lib.rt:528:9
 slice-aggregate-strides : tie.Need-slice-aggregate-strides

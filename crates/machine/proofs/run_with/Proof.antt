@@ -7,7 +7,7 @@ use Rattle.rules.specs.Program.{program}
 use Rattle.rules.specs.Heap.{heapOf}
 use Rattle.room.specs.Turn.{outside, whole}
 use Rattle.memo.specs.Memo.{Memo}
-use Rattle.machine.specs.ReachLaws.{led, led-less}
+use Rattle.machine.specs.LedLaws.{led, led-less}
 use Rattle.machine.specs.NextLaws.{goes-on, at-end}
 use Rattle.machine.specs.Runs.{Running, left}
 use Prim.Native.Nat.{suc, _+_, _-_, _≤_}
@@ -15,12 +15,12 @@ use Rattle.machine.proofs.run_with.Statement.{statement}
 use Rattle.machine.proofs.run_with.Tie as tie
 use Rattle.machine.proofs.run_with.Reads as reads
 use Rattle.machine.proofs.run_with.Lts as lts
-use Rattle.machine.proofs.ended.Reads as ended-reads
-use Rattle.machine.proofs.focus_of.Reads as focus-of-reads
+use Rattle.ends.proofs.ended.Reads as ended-reads
+use Rattle.strides.proofs.focus_of.Reads as focus-of-reads
 use Rattle.machine.proofs.learn.Reads as learn-reads
-use Rattle.machine.proofs.next_of.Reads as next-of-reads
+use Rattle.ends.proofs.next_of.Reads as next-of-reads
 use Rattle.machine.proofs.onward.Reads as onward-reads
-use Rattle.machine.proofs.turn.Reads as turn-reads
+use Rattle.turns.proofs.turn.Reads as turn-reads
 
 abbrev Inv-loop : tie.InvT-loop
 Inv-loop ws lay counts types heap₀ room₀ memo₀ depth limit from taken focus₀ level₀ count₀ heap room memo focus level count = Running ws depth limit (run depth (program ws) (limit - taken) taken (heapOf (program ws) heap₀) (outside ws room₀ from) (whole ws room₀ from focus₀)) heap₀ room₀ heap room level focus count × Memo ws memo × (length memo ≡ length memo₀)

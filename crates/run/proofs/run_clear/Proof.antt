@@ -1,7 +1,8 @@
 -- `run::run_clear` meets its contract.
 use Prim.Native.Nat.{ℕ}
 use Rattle.run.proofs.run_clear.Statement.{statement}
-use Rattle.run.specs.Laws.{begins, filled-search, heap-ok, inputs-few, inputs-values, same-start}
+use Rattle.start.specs.StartLaws.{filled-search}
+use Rattle.run.specs.Laws.{begins, heap-ok, inputs-few, inputs-values, same-start}
 use borrow.Author.Needs.{needs}
 use lib.ListN.{replicate}
 use mathlib.Core.Path.{_∙_, ap}

@@ -1,0 +1,2 @@
+-- The end of a run, after its last turn.
+pub mod Finished

@@ -1,0 +1,3 @@
+-- The room as a run begins.
+pub mod Start
+pub mod StartLaws
