@@ -15,8 +15,8 @@ use Rattle.room.specs.RoomLaws.{Kept}
 use Rattle.room.specs.Turn.{HeapOk, phi, Inv}
 use Rattle.room.specs.Leads.{Leads, Leaps}
 use Rattle.room.specs.LeadsLaws.{leads-none, leads-on, leaps-on, leads-kept}
-use Rattle.leaps.specs.declared.Leap.{Leap}
-use Rattle.leaps.specs.Lands.{Landing, Lands}
+use Rattle.landings.specs.declared.Leap.{Leap}
+use Rattle.landings.specs.Lands.{Landing, Lands}
 use Rattle.strides.specs.Bound.{bound, phi-low}
 use Rattle.strides.specs.declared.Reached.{Reached}
 use Rattle.strides.specs.Reaches.{focusAt, Reaches}

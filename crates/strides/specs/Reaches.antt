@@ -4,7 +4,7 @@ use Prim.Native.Nat.{ℕ, zero, suc, _-_, _≤_}
 use Rattle.room.specs.declared.Focus.{Focus}
 use Rattle.room.specs.declared.Focus.the-variants.{Node, Value, Thrown}
 use Rattle.room.specs.Leads.{Leads}
-use Rattle.leaps.specs.declared.Leap.{Leap}
+use Rattle.landings.specs.declared.Leap.{Leap}
 use Rattle.strides.specs.declared.Reached.{Reached}
 
 -- what is looked at, by how it is told: 1 a node, 2 a value, else a thrown address

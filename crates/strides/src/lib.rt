@@ -10,11 +10,11 @@ ghost use Rattle.room.specs.Turn.{HeapOk, Inv};
 ghost use Rattle.memo.specs.Memo.{Memo};
 ghost use Rattle.strides.specs.Reaches.{focusAt, reachedAt, landedAt, Reaches};
 use image::Layout;
-use leaps::Leap;
-use leaps::NODE;
-use leaps::NONE;
-use leaps::THROWN;
-use leaps::VALUE;
+use landings::Leap;
+use landings::NODE;
+use landings::NONE;
+use landings::THROWN;
+use landings::VALUE;
 use room::Focus;
 
 // Where leaps have come to: what is looked at, under how many frames, and the steps that are left.
@@ -103,7 +103,7 @@ fn backs(
         if left < ENOUGH {
             return at_value(w, l, left);
         }
-        let r = leaps::back_leap(ws, lay, heap, room, memo, depth, l - 1, w);
+        let r = back_leaps::back_leap(ws, lay, heap, room, memo, depth, l - 1, w);
         if r.how == NONE {
             return at_value(w, l, left);
         }
@@ -141,7 +141,7 @@ fn unwinds(
         if left < ENOUGH {
             return at_thrown(a, p, l, left);
         }
-        let r = leaps::unwind_leap(ws, lay, heap, room, memo, depth, l - 1, a, p);
+        let r = back_leaps::unwind_leap(ws, lay, heap, room, memo, depth, l - 1, a, p);
         if r.how == NONE {
             return at_thrown(a, p, l, left);
         }
@@ -232,7 +232,7 @@ pub fn strides(
         if left < ENOUGH {
             return at_node(n, l, left);
         }
-        let e = leaps::enter_leap(ws, lay, counts, types, heap, room, memo, depth, n, l);
+        let e = enter_leaps::enter_leap(ws, lay, counts, types, heap, room, memo, depth, n, l);
         if e.how == NONE {
             return at_node(n, l, left);
         }

@@ -10,7 +10,7 @@ use Rattle.strides.proofs.backs.Statement.{statement}
 use Rattle.strides.proofs.backs.Tie as tie
 use Rattle.strides.proofs.backs.Reads as reads
 use Rattle.strides.proofs.backs.Lts as lts
-use Rattle.leaps.proofs.back_leap.Reads as back-leap-reads
+use Rattle.back_leaps.proofs.back_leap.Reads as back-leap-reads
 use Rattle.strides.proofs.at_value.Reads as at-value-reads
 use Rattle.strides.proofs.landed.Reads as landed-reads
 

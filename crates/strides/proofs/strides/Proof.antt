@@ -9,7 +9,7 @@ use Rattle.strides.proofs.strides.Statement.{statement}
 use Rattle.strides.proofs.strides.Tie as tie
 use Rattle.strides.proofs.strides.Reads as reads
 use Rattle.strides.proofs.strides.Lts as lts
-use Rattle.leaps.proofs.enter_leap.Reads as enter-leap-reads
+use Rattle.enter_leaps.proofs.enter_leap.Reads as enter-leap-reads
 use Rattle.strides.proofs.at_node.Reads as at-node-reads
 use Rattle.strides.proofs.outward.Reads as outward-reads
 

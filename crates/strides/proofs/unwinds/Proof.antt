@@ -8,7 +8,7 @@ use Rattle.strides.proofs.unwinds.Statement.{statement}
 use Rattle.strides.proofs.unwinds.Tie as tie
 use Rattle.strides.proofs.unwinds.Reads as reads
 use Rattle.strides.proofs.unwinds.Lts as lts
-use Rattle.leaps.proofs.unwind_leap.Reads as unwind-leap-reads
+use Rattle.back_leaps.proofs.unwind_leap.Reads as unwind-leap-reads
 use Rattle.strides.proofs.at_thrown.Reads as at-thrown-reads
 use Rattle.strides.proofs.landed.Reads as landed-reads
 

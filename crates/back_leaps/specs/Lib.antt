@@ -1,0 +1,4 @@
+-- What a value that comes back to a frame promises.
+pub mod Backs
+-- Laws.
+pub mod BackLaps

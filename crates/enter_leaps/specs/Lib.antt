@@ -1,0 +1,5 @@
+-- What a node's operands promise.
+pub mod Enters
+-- Laws.
+pub mod EnterLaps
+pub mod CallLaps

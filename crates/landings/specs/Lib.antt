@@ -1,0 +1,5 @@
+-- What a leap comes to.
+pub mod Lands
+-- Laws.
+pub mod LandsLaws
+pub mod SetLaws
