@@ -33,8 +33,8 @@ use Rattle.room.specs.Armed.{armedSeq}
 use Rattle.room.specs.Turn.{HeapOk, focusOf, weight, pending, Turned, Steps}
 use Rattle.room.specs.Back as back
 use Rattle.room.specs.Back.{Back}
-use Rattle.enter.specs.Turns.{Writes, restOf}
-use Rattle.enter.specs.TakeUp.{takes-rest, rest-place}
+use Rattle.pushes.specs.Turns.{Writes, restOf}
+use Rattle.pushes.specs.TakeUp.{takes-rest, rest-place}
 use Rattle.back.specs.Comes.{Coming, finishOf, First}
 
 module _ (ws : List ℕ) (D : ℕ) (hs room : List ℕ) (p i w : ℕ) (may : Bool) where

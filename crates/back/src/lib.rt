@@ -10,7 +10,7 @@ ghost use Rattle.image.specs.Layout.{Good};
 ghost use Rattle.rules.specs.Program.{program};
 ghost use Rattle.laws.specs.Heap.{Words};
 ghost use Rattle.laws.specs.Values.{IsValue};
-ghost use Rattle.heap.specs.Rows.{Sizes};
+ghost use Rattle.rows.specs.Rows.{Sizes};
 ghost use Rattle.room.specs.declared.Focus.the-variants.{Value};
 ghost use Rattle.room.specs.Room.{searchWord, frameAt, word, tag, Fit};
 ghost use Rattle.room.specs.Turn.{HeapOk, Inv, Turned};
@@ -182,9 +182,9 @@ fn back_assign(ws: &[u32], lay: Layout, room: &mut [u64], p: usize, i: usize, w:
     ensures { λ r. ⌜ Changes (now (ws .entry)) (now (room .entry)) 6 p i w (now (room .exit)) r ⌝ }
 {
     let x = image::node_word(ws, lay, p, 2) as usize;
-    if enter::armed_seq(room, i, x) {
+    if pushes::armed_seq(room, i, x) {
         let j = i - 1;
-        let rest = enter::take_up(room, j, x, w);
+        let rest = pushes::take_up(room, j, x, w);
         return Go::Moved(Focus::Node(rest), j);
     }
     room[x] = w + 1;

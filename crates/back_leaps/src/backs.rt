@@ -16,8 +16,8 @@ ghost use Rattle.room.specs.declared.Focus.the-variants.{Value as Word, Thrown}
 ghost use Rattle.room.specs.Room.{frameAt, word, IsNode};
 ghost use Rattle.landings.specs.Lands.{Lands};
 ghost use Rattle.back_leaps.specs.Backs.{Comes, LandsBack, Begun, Fielded, Tried};
-use landings::Leap;
 use heap::NULL_POINTER;
+use landings::Leap;
 use room::ADDRESS;
 use room::CLASS;
 use room::FRAME_WORDS;
@@ -184,7 +184,7 @@ pub fn unwind_try(
         2 => {
             let c = quick::word_at(ws, nodes, p, 2) as u64;
             let x = quick::word_at(ws, nodes, p, 3) as usize;
-            enter::push_block(room, i, p, x, CLASS + c, ADDRESS + a as u64 + 1);
+            pushes::push_block(room, i, p, x, CLASS + c, ADDRESS + a as u64 + 1);
             landings::at_node(p - 1, i + 1, 1)
         }
         _ => landings::none(),

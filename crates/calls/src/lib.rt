@@ -36,13 +36,13 @@ pub fn push_blocks(
     let owner = image::method_word(ws, lay, j, 0) as u64;
     let first = image::method_word(ws, lay, j, 3) as usize;
     let receiver = room[at + OPERANDS];
-    enter::push_block(room, i, p, 0, CLASS + owner, receiver + 1);
+    pushes::push_block(room, i, p, 0, CLASS + owner, receiver + 1);
     let mut k = 0;
     while k < y {
         let c = k + 1;
         let t = image::type_word(ws, lay, first + k) as u64;
         let w = room[at + (OPERANDS + c)];
-        enter::push_block(room, i + c, p, c, t, w + 1);
+        pushes::push_block(room, i + c, p, c, t, w + 1);
         k = c;
     }
 }

@@ -1,11 +1,7 @@
--- The member that a class sees, the keys by which the tables of members are sorted, and counts of fields.
+-- The member that a class sees, and the keys by which the tables of members are sorted.
 pub mod Sees
 pub mod Keys
-pub mod Counts
--- Laws, which a reader need not believe: the checker does.
 pub mod Records
 pub mod Types
 pub mod Search
 pub mod Tables
-pub mod Totals
-pub mod Overrides

@@ -10,7 +10,7 @@ ghost use Rattle.rules.specs.Program.{program};
 ghost use Rattle.rules.specs.Trees.{operand};
 ghost use Rattle.laws.specs.Heap.{Words};
 ghost use Rattle.laws.specs.Trees.{operandCount};
-ghost use Rattle.heap.specs.Rows.{Rows};
+ghost use Rattle.rows.specs.Rows.{Rows};
 ghost use Rattle.room.specs.declared.Focus.the-variants.{Node};
 ghost use Rattle.room.specs.Room.{searchWord, frameAt};
 ghost use Rattle.room.specs.RoomLaws.{Kept};
@@ -19,8 +19,8 @@ ghost use Rattle.memo.specs.Memo.{Memo};
 ghost use Rattle.quick.specs.Known.{Tabled, Stored, Known, mostQuick};
 ghost use Rattle.landings.specs.Lands.{Lands};
 ghost use Rattle.enter_leaps.specs.Enters.{Holds, Enters, First, Asked, Whole, Quickly, Ready};
-use landings::Leap;
 use image::Layout;
+use landings::Leap;
 use order::Found;
 use quick::ADD;
 use quick::EQ;
@@ -53,7 +53,7 @@ pub fn first(room: &mut [u64], kind: u32, n: usize, m: usize, l: usize) -> Leap
     requires { ⌜ frameAt (suc l) ≤ length (now room) ⌝ }
     ensures { λ r. ⌜ ((ws hs : List ℕ) → Holds ws → First ws kind n m → Enters ws hs (now (room .entry)) l n hs (now (room .exit)) r) ⌝ }
 {
-    enter::push(room, l, kind as u64, n);
+    pushes::push(room, l, kind as u64, n);
     landings::at_node(m, l + 1, 0)
 }
 
@@ -104,7 +104,7 @@ pub fn block(ws: &[u32], nodes: usize, room: &mut [u64], n: usize, l: usize) -> 
 {
     let x = quick::word_at(ws, nodes, n, 2) as usize;
     let t = quick::word_at(ws, nodes, n, 3) as u64;
-    enter::push_block(room, l, n, x, t, 0);
+    pushes::push_block(room, l, n, x, t, 0);
     landings::at_node(n - 1, l + 1, 0)
 }
 
@@ -166,13 +166,13 @@ fn repeat(room: &mut [u64], n: usize, m: usize, l: usize, q: Quick) -> Leap
 {
     let h = q.held;
     if h == TRUE {
-        enter::push(room, l, LOOP, n);
+        pushes::push(room, l, LOOP, n);
         return landings::at_node(n - 1, l + 1, q.steps + 2);
     }
     if h == FALSE {
         return landings::at_value(0, l, q.steps + 2);
     }
-    enter::push(room, l, 13, n);
+    pushes::push(room, l, 13, n);
     landings::at_node(m, l + 1, 1)
 }
 

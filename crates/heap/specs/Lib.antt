@@ -1,8 +1,5 @@
 -- The table of every class's fields; free slots.
-pub mod Rows
 pub mod Slots
 -- Laws, which a reader need not believe: the checker does.
-pub mod RowLaws
 pub mod SlotLaws
 pub mod WordLaws
-pub mod IndexLaws

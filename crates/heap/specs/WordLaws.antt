@@ -20,7 +20,7 @@ use Rattle.rules.specs.Classes.{hasFields}
 use Rattle.rules.specs.Heap.{slotWords}
 use Rattle.rules.specs.Numbers.{mostFieldsAbove, slotWordHolds, slotFirst, heapWordRule, inputHolds, inputRule}
 use Rattle.classes.specs.Search.{lt-or-ge}
-use Rattle.heap.specs.Rows.{Sizes}
+use Rattle.rows.specs.Rows.{Sizes}
 use Rattle.heap.specs.Slots.{ZerosAt, ValuesAt, SlotHolds, Clean}
 
 -- Nothing is said of a test that fails.

@@ -25,10 +25,10 @@ fn check_rules(ws: &[u32], l: Layout) -> Checked
     requires { ⌜ Good (now ws) l ⌝ }
     ensures { λ r. ⌜ checkedNumbers r ≡ answerOf (RulesFrom10 (now (ws .entry))) ⌝ }
 {
-    if let Found::At(p) = classes::fields_place(ws, l) {
+    if let Found::At(p) = class_rules::fields_place(ws, l) {
         return Checked::Fields(p);
     }
-    if let Found::At(p) = classes::override_place(ws, l) {
+    if let Found::At(p) = class_rules::override_place(ws, l) {
         return Checked::Override(p);
     }
     if let Found::At(p) = typing::untyped_place(ws, l) {

@@ -8,7 +8,7 @@ ghost use Rattle.rules.specs.Program.{program};
 ghost use Rattle.rules.specs.Heap.{heapOf};
 ghost use Rattle.rules.specs.Run.{run};
 ghost use Rattle.laws.specs.Heap.{Words};
-ghost use Rattle.heap.specs.Rows.{Sizes, Rows};
+ghost use Rattle.rows.specs.Rows.{Sizes, Rows};
 ghost use Rattle.room.specs.declared.Focus.the-variants.{Node, Thrown};
 ghost use Rattle.room.specs.Room.{searchWord, Fit};
 ghost use Rattle.room.specs.Turn.{HeapOk, FocusOk, whole, outside, Inv};
@@ -40,7 +40,19 @@ fn onward(
     ensures { λ r. ⌜ Reaches (now (ws .entry)) depth left (now (heap .entry)) (now (room .entry)) l f (now (heap .exit)) (now (room .exit)) r ⌝ }
 {
     match f {
-        Focus::Node(n) => strides::strides(ws, lay, counts, types, heap, room, memo, depth, n, l, left),
+        Focus::Node(n) => strides::strides(
+            ws,
+            lay,
+            counts,
+            types,
+            heap,
+            room,
+            memo,
+            depth,
+            n,
+            l,
+            left,
+        ),
         Focus::Value(w) => strides::at_value(w, l, left),
         Focus::Thrown(a, p) => strides::at_thrown(a, p, l, left),
     }

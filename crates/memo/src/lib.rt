@@ -13,7 +13,7 @@ ghost use Rattle.rules.specs.Program.{program};
 ghost use Rattle.rules.specs.Heap.{slotWords};
 ghost use Rattle.laws.specs.Values.{valueAt, IsValue};
 ghost use Rattle.laws.specs.Heap.{Words};
-ghost use Rattle.heap.specs.Rows.{Sizes};
+ghost use Rattle.rows.specs.Rows.{Sizes};
 ghost use Rattle.redexes.specs.Outcomes.{EntersAt, Tries};
 ghost use Rattle.redexes.specs.declared.Catch.the-variants.{Catches, Passes};
 ghost use Rattle.objects.specs.Spots.{FieldSpot};
@@ -133,7 +133,7 @@ fn learn_field(
         return;
     }
     let name = image::node_word(ws, lay, p, 2) as usize;
-    let Found::At(i) = heap::field_index(ws, lay, counts, d, name) else {
+    let Found::At(i) = rows::field_index(ws, lay, counts, d, name) else {
         return;
     };
     keep(memo, p, first, i + 1);

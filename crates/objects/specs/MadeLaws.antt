@@ -22,7 +22,7 @@ use Rattle.rules.specs.Numbers.{fieldType}
 use Rattle.rules.specs.Step.{newRedex}
 use Rattle.laws.specs.Heap.{Words, place, taken, taken-word, room, look-free, free-word, length-heap, length-defaults, heap-fits, heap-new, heap-shaped, shaped-fits, shaped-new, shaped-words, words-heap, words-new}
 use Rattle.classes.specs.Search.{lt-or-ge}
-use Rattle.heap.specs.Rows.{rowWords, Rows}
+use Rattle.rows.specs.Rows.{rowWords, Rows}
 use Rattle.heap.specs.Slots.{takenAt}
 use Rattle.heap.specs.SlotLaws.{free-at, lowest-free, lowest-free-from}
 use Rattle.objects.specs.Made.{defaultWords, Made, Opened}

@@ -9,14 +9,14 @@ ghost use Rattle.rules.specs.Program.{program};
 ghost use Rattle.rules.specs.Heap.{slotWords};
 ghost use Rattle.laws.specs.Heap.{Words};
 ghost use Rattle.laws.specs.Values.{IsValue};
-ghost use Rattle.heap.specs.Rows.{Sizes, Rows};
+ghost use Rattle.rows.specs.Rows.{Sizes, Rows};
 ghost use Rattle.objects.specs.Spots.{Spotted};
 ghost use Rattle.objects.specs.Made.{Made};
 use heap::NULL_POINTER;
-use heap::ROW_WORDS;
 use heap::SLOT_WORDS;
 use image::Layout;
 use order::Found;
+use rows::ROW_WORDS;
 use words::TAG;
 
 // The tags of Null and of an address.
@@ -62,7 +62,7 @@ pub fn field_spot(
     if !classes::is_subclass(ws, l, c, d) {
         return Spot::Fails;
     }
-    match heap::field_index(ws, l, counts, d, name) {
+    match rows::field_index(ws, l, counts, d, name) {
         Found::At(i) => Spot::At(SLOT_WORDS * a + 1 + i),
         Found::Nowhere => Spot::Fails,
     }

@@ -2,7 +2,7 @@
 ghost use mathlib.Core.Path.{_≡_};
 ghost use Prim.Native.Nat.{_*_, _<_};
 ghost use Rattle.image.specs.Layout.{Good};
-ghost use Rattle.heap.specs.Rows.{Sizes};
+ghost use Rattle.rows.specs.Rows.{Sizes};
 ghost use Rattle.refusals.specs.Refusals.{refusalNumbers};
 ghost use Rattle.refusals.specs.Judged.{Judges};
 use image::Breach;

@@ -8,13 +8,12 @@ ghost use Rattle.image.specs.Trailer.{classCount};
 ghost use Rattle.image.specs.Layout.{layoutRules, Good};
 ghost use Rattle.rules.specs.Run.{runOf};
 ghost use Rattle.rules.specs.Numbers.{fieldsRule, endNumbers};
-ghost use Rattle.heap.specs.Rows.{rowWords, Rows};
+ghost use Rattle.rows.specs.Rows.{rowWords, Rows};
 ghost use Rattle.ends.specs.Finished.{Finishes};
 ghost use Rattle.run.specs.Answers.{endWord, toldOf, Answers};
 ghost use Rattle.run.specs.Few.{fewClasses};
 ghost use Rattle.refusals.specs.Judged.{Free};
 use ends::Finished;
-use heap::TABLE_WORDS;
 use image::Laid;
 use image::Layout;
 use image::MOST_CLASSES;
@@ -22,6 +21,7 @@ use order::Answer;
 use order::Found;
 use refusals::Judged;
 use refusals::Refusal;
+use rows::TABLE_WORDS;
 use rules::End;
 use words::Value;
 
@@ -73,7 +73,7 @@ fn run_tabled(
     ensures { λ r. ⌜ Answers (now (ws .entry)) (now (heap .entry)) (now (inputs .entry)) (now (room .entry)) steps depth r (now (heap .exit)) (now (room .exit)) ⌝ }
 {
     let mut counts: [usize; MOST_CLASSES] = [0; MOST_CLASSES];
-    heap::fill_rows(ws, l, &mut counts, types);
+    rows::fill_rows(ws, l, &mut counts, types);
     match refusals::judge(ws, l, &counts, heap, inputs, room.len(), depth) {
         Judged::Against(f) => Ran::Refused(f),
         Judged::Clear => {
@@ -142,7 +142,7 @@ fn run_laid(
     requires { ⌜ Good (now ws) l × (accepted ≡ answerOf (layoutRules (now ws))) ⌝ }
     ensures { λ r. ⌜ Answers (now (ws .entry)) (now (heap .entry)) (now (inputs .entry)) (now (room .entry)) steps depth r (now (heap .exit)) (now (room .exit)) ⌝ }
 {
-    if let Found::At(p) = classes::fields_place(ws, l) {
+    if let Found::At(p) = class_rules::fields_place(ws, l) {
         return Ran::Refused(Refusal::Fields(p));
     }
     if l.class_count <= FEW_CLASSES {

@@ -23,7 +23,7 @@ use Rattle.rules.specs.Trees.{Expr, operand, arguments, nodeOf, nodeTree, tree}
 use Rattle.rules.specs.Typing.{Res, ok, bad, _>>=_, need}
 use Rattle.rules.specs.Setting.{Vars, everyVar, meet, setting, settings}
 use Rattle.laws.specs.Trees.{operandCount, tree-node, tree-block, tree-if, tree-while, tree-try}
-use Rattle.setting.specs.Vars.{varsOf}
+use Rattle.vars.specs.Vars.{varsOf}
 use Rattle.setting.specs.declared.Settled.{Settled}
 
 abbrev pub resOf : Settled → Res Vars

@@ -1,102 +1,26 @@
 // Number 13: every variable is set before it is read.
 ghost use mathlib.Core.Path.{_≡_};
-ghost use mathlib.Core.Bool.{Bool, true, false};
-ghost use Prim.Native.Nat.{ℕ, _≤_, _<_};
+ghost use mathlib.Core.Bool.{true};
+ghost use Prim.Native.Nat.{_≤_, _<_};
 ghost use lib.ListN.{length};
 ghost use Rattle.order.specs.Rules.{firstPlace};
 ghost use Rattle.image.specs.Numbers.{variables};
 ghost use Rattle.image.specs.Trailer.{inputCount};
 ghost use Rattle.image.specs.Layout.{Good};
-ghost use Rattle.rules.specs.Maps.{upd};
 ghost use Rattle.rules.specs.Trees.{arguments, tree};
 ghost use Rattle.rules.specs.Program.{methodAt, main};
 ghost use Rattle.rules.specs.Typing.{ok};
-ghost use Rattle.rules.specs.Setting.{everyVar, setting, settings};
-ghost use Rattle.rules.specs.Setting.{between as Setting·between, meet as Setting·meet};
+ghost use Rattle.rules.specs.Setting.{setting, settings};
+ghost use Rattle.rules.specs.Setting.{between as Setting·between};
 ghost use Rattle.rules.specs.Numbers.{settingRule};
 ghost use Rattle.laws.specs.Trees.{operandCount};
-ghost use Rattle.setting.specs.Vars.{varsOf, noVar};
+ghost use Rattle.vars.specs.Vars.{varsOf};
 ghost use Rattle.setting.specs.Settle.{resOf, below, Node, meetBoth, giveBack, thenOwn, inBlock, inIf, inWhile, inTry};
 ghost use Rattle.setting.specs.Settle.{own as Settle·own};
 use image::Kind;
 use image::Layout;
 use order::Found;
-
-// The variables that are surely set: variable x where binary digit x is 1. A set goes in by value, and each method hands back the new one.
-pub struct Vars {
-    pub on: u64,
-}
-
-impl Vars {
-    pub fn none() -> Self
-        ensures { λ r. ⌜ varsOf r ≡ noVar ⌝ }
-    {
-        Vars { on: 0 }
-    }
-
-    pub fn all() -> Self
-        ensures { λ r. ⌜ varsOf r ≡ everyVar ⌝ }
-    {
-        Vars {
-            on: 18446744073709551615,
-        }
-    }
-
-    pub fn between(from: usize, to: usize) -> Self
-        requires { ⌜ to < variables ⌝ }
-        ensures { λ r. ⌜ varsOf r ≡ Setting·between from to ⌝ }
-    {
-        let mut set = Vars::none();
-        let mut i = from;
-        while i <= to {
-            set = set.with(i);
-            i += 1;
-        }
-        set
-    }
-
-    pub fn has(self, x: usize) -> bool
-        requires { ⌜ x < variables ⌝ }
-        ensures { λ r. ⌜ r ≡ varsOf self x ⌝ }
-    {
-        (self.on >> x) % 2 == 1
-    }
-
-    pub fn with(self, x: usize) -> Self
-        requires { ⌜ x < variables ⌝ }
-        ensures { λ r. ⌜ varsOf r ≡ upd (varsOf self) x true ⌝ }
-    {
-        Vars {
-            on: self.on | (1 << x),
-        }
-    }
-
-    pub fn without(self, x: usize) -> Self
-        requires { ⌜ x < variables ⌝ }
-        ensures { λ r. ⌜ varsOf r ≡ upd (varsOf self) x false ⌝ }
-    {
-        let digit = 1 << x;
-        Vars {
-            on: (self.on | digit) ^ digit,
-        }
-    }
-
-    // Gives a variable back the standing that it had.
-    pub fn put(self, x: usize, b: bool) -> Self
-        requires { ⌜ x < variables ⌝ }
-        ensures { λ r. ⌜ varsOf r ≡ upd (varsOf self) x b ⌝ }
-    {
-        if b { self.with(x) } else { self.without(x) }
-    }
-
-    pub fn meet(self, other: Vars) -> Self
-        ensures { λ r. ⌜ varsOf r ≡ Setting·meet (varsOf self) (varsOf other) ⌝ }
-    {
-        Vars {
-            on: self.on & other.on,
-        }
-    }
-}
+use vars::Vars;
 
 // What the check of a tree finds: the set after it, or the place of the first variable that is read unset.
 pub struct Settled {
@@ -277,7 +201,7 @@ fn settle(ws: &[u32], l: Layout, n: usize, vars: Vars) -> Settled
         Kind::While => settle_while(ws, l, n, vars),
         Kind::Try => settle_try(ws, l, n, y as usize, vars),
         _ => {
-            let a = settle_list(ws, l, n, nodes::operand_count(k, y), vars);
+            let a = settle_list(ws, l, n, kinds::operand_count(k, y), vars);
             finish(k, n, x, a)
         }
     }

@@ -3,7 +3,7 @@ ghost use mathlib.Core.Path.{_≡_};
 ghost use Prim.Native.Nat.{_+_, _-_, _≤_};
 ghost use lib.ListN.{getD};
 ghost use Rattle.image.specs.Layout.{Good};
-ghost use Rattle.heap.specs.Rows.{Rows};
+ghost use Rattle.rows.specs.Rows.{Rows};
 ghost use Rattle.room.specs.declared.Focus.the-variants.{Node, Value as Word, Thrown};
 ghost use Rattle.room.specs.Room.{searchWord};
 ghost use Rattle.room.specs.Turn.{HeapOk, Inv};

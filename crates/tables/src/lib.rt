@@ -2,28 +2,14 @@
 // Each test computes the definition of image's Records that has its name. One loop, for all four, looks for the first place
 // where the test fails. Tests are joined by `&` and `|`, which ask both sides: each test is safe by itself.
 ghost use mathlib.Core.Path.{_≡_};
-ghost use Prim.Native.Nat.{_≤_, _<_};
+ghost use Prim.Native.Nat.{_<_};
 ghost use Rattle.order.specs.Rules.{firstPlace};
-ghost use Rattle.image.specs.Numbers.{mostClasses};
-ghost use Rattle.image.specs.Records.{superHolds, classHolds, isUserClass, isName, rises, memberHolds, fieldRises, fieldHolds, methodRises, argumentsHold, methodHolds, typeHolds};
+ghost use Rattle.image.specs.Records.{classHolds, rises, fieldRises, fieldHolds, methodRises, methodHolds, typeHolds};
 ghost use Rattle.image.specs.Layout.{Lay, Small, classRule, fieldRule, methodRule, typeRule};
 ghost use Rattle.tables.specs.Tables.{ruleOf, placesOf};
 use image::FIRST_USER_CLASS;
-use image::HIGHEST_NAME;
 use image::Layout;
-use image::MOST_ARGUMENTS;
 use order::Found;
-
-// A system class holds 0, a later one a class below itself.
-fn super_holds(c: usize, s: u32) -> bool
-    ensures { λ r. ⌜ r ≡ superHolds c s ⌝ }
-{
-    if c < FIRST_USER_CLASS {
-        s == 0
-    } else {
-        (s as usize) < c
-    }
-}
 
 // 4: a class record; at the class count, that there are enough classes.
 fn class_holds(ws: &[u32], l: Layout, c: usize) -> bool
@@ -31,40 +17,10 @@ fn class_holds(ws: &[u32], l: Layout, c: usize) -> bool
     ensures { λ r. ⌜ r ≡ classHolds (now (ws .entry)) c ⌝ }
 {
     if c < l.class_count {
-        super_holds(c, image::class_word(ws, l, c))
+        records::super_holds(c, image::class_word(ws, l, c))
     } else {
         FIRST_USER_CLASS <= l.class_count
     }
-}
-
-// A class that may have fields and methods: of the image, and none of the system's.
-fn is_user_class(classes: usize, c: u32) -> bool
-    ensures { λ r. ⌜ r ≡ isUserClass classes c ⌝ }
-{
-    let c = c as usize;
-    (FIRST_USER_CLASS <= c) & (c < classes)
-}
-
-// Names have 16 bits.
-fn is_name(n: u32) -> bool
-    ensures { λ r. ⌜ r ≡ isName n ⌝ }
-{
-    n <= HIGHEST_NAME
-}
-
-// (class, name) rises strictly, from (c, n) to (d, m).
-fn rises(c: u32, n: u32, d: u32, m: u32) -> bool
-    ensures { λ r. ⌜ r ≡ rises c n d m ⌝ }
-{
-    (c < d) | ((c == d) & (n < m))
-}
-
-// What field and method records share: class, name and type.
-fn member_holds(classes: usize, c: u32, n: u32, t: u32) -> bool
-    requires { ⌜ classes ≤ mostClasses ⌝ }
-    ensures { λ r. ⌜ r ≡ memberHolds classes c n t ⌝ }
-{
-    is_user_class(classes, c) & is_name(n) & words::is_declared(t, classes as u32)
 }
 
 // Field i comes after the one before it, if there is one.
@@ -80,7 +36,7 @@ fn field_rises(ws: &[u32], l: Layout, i: usize) -> bool
     let n = image::field_word(ws, l, before, 1);
     let d = image::field_word(ws, l, i, 0);
     let m = image::field_word(ws, l, i, 1);
-    rises(c, n, d, m)
+    records::rises(c, n, d, m)
 }
 
 // 5: a field record.
@@ -91,7 +47,7 @@ fn field_holds(ws: &[u32], l: Layout, i: usize) -> bool
     let c = image::field_word(ws, l, i, 0);
     let n = image::field_word(ws, l, i, 1);
     let t = image::field_word(ws, l, i, 2);
-    member_holds(l.class_count, c, n, t) & field_rises(ws, l, i)
+    records::member_holds(l.class_count, c, n, t) & field_rises(ws, l, i)
 }
 
 // Method i comes after the one before it, if there is one.
@@ -107,14 +63,7 @@ fn method_rises(ws: &[u32], l: Layout, i: usize) -> bool
     let n = image::method_word(ws, l, before, 1);
     let d = image::method_word(ws, l, i, 0);
     let m = image::method_word(ws, l, i, 1);
-    rises(c, n, d, m)
-}
-
-// A method's arguments stand among the type words. The sum is taken in 64 bits, since two words may pass 32.
-fn arguments_hold(types: usize, first: u32, count: u32) -> bool
-    ensures { λ r. ⌜ r ≡ argumentsHold types first count ⌝ }
-{
-    (count <= MOST_ARGUMENTS) & (first as usize + count as usize <= types)
+    records::rises(c, n, d, m)
 }
 
 // 6: a method record.
@@ -127,8 +76,8 @@ fn method_holds(ws: &[u32], l: Layout, i: usize) -> bool
     let t = image::method_word(ws, l, i, 2);
     let first = image::method_word(ws, l, i, 3);
     let count = image::method_word(ws, l, i, 4);
-    member_holds(l.class_count, c, n, t)
-        & arguments_hold(l.type_count, first, count)
+    records::member_holds(l.class_count, c, n, t)
+        & records::arguments_hold(l.type_count, first, count)
         & method_rises(ws, l, i)
 }
 

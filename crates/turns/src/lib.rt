@@ -2,14 +2,14 @@
 ghost use Prim.Native.Nat.{suc, _+_, _-_};
 ghost use lib.ListN.{getD};
 ghost use Rattle.image.specs.Layout.{Good};
-ghost use Rattle.heap.specs.Rows.{Sizes, Rows};
+ghost use Rattle.rows.specs.Rows.{Sizes, Rows};
 ghost use Rattle.room.specs.declared.Focus.the-variants.{Node, Value as Word, Thrown};
 ghost use Rattle.room.specs.Room.{searchWord};
 ghost use Rattle.room.specs.Turn.{HeapOk, Inv, Turned};
 use image::Layout;
 use room::CALL;
-use room::FRAMES;
 use room::FRAME_WORDS;
+use room::FRAMES;
 use room::Focus;
 use room::Go;
 

@@ -11,7 +11,6 @@ use lib.Seq.{getD-set-same, getD-set-other}
 use borrow.Author.Tests.{eqb-true, eqb-false}
 use Rattle.words.specs.declared.Ty.{Ty}
 use Rattle.words.specs.Types.{typeOf}
-use Rattle.image.specs.declared.Kind.{Kind}
 use Rattle.image.specs.Nodes.{nodeWord, kindOf, nodeHolds}
 use Rattle.rules.specs.Maps.{tabulate}
 use Rattle.rules.specs.Trees.{Expr, tree, operand, nodeTree}
@@ -19,10 +18,10 @@ use Rattle.rules.specs.Program.{Program, Env, program}
 use Rattle.rules.specs.Typing.{Res, ok, bad, _>>=_, typing}
 use Rattle.laws.specs.Maps.{tabulate-last, tabulate-same}
 use Rattle.laws.specs.Trees.{operandCount, tree-node, known}
-use Rattle.typing.specs.Env.{envOf, typeWords, EnvOk, AllKnown, typesOf, resTys, operandEnv, operandTyping, operandsTyping, ruleOf}
-use Rattle.typing.specs.EnvLaws.{operand-last, operand-other}
-use Rattle.typing.specs.Node.{nodeRule, operandTypes, typing-node}
-use Rattle.typing.specs.declared.Types.{Types}
+use Rattle.node_rules.specs.Env.{envOf, typeWords, EnvOk, AllKnown, typesOf, resTys, operandEnv, operandTyping, operandsTyping, ruleOf}
+use Rattle.node_rules.specs.EnvLaws.{operand-last, operand-other}
+use Rattle.node_rules.specs.Node.{nodeRule, operandTypes, typing-node}
+use Rattle.node_rules.specs.declared.Types.{Types}
 
 -- ONE MORE TYPE
 pub types-set : (types : List ℕ) (i t : ℕ) → i < length types → typesOf (suc i) (set types i t) ≡ typesOf i types ++ (typeOf t ∷ [])

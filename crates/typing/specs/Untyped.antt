@@ -1,7 +1,7 @@
 -- Laws: the environments that bodies start with, and what the typing of the bodies, one after the other, says of rule 12.
 use mathlib.Core.Path.{_≡_, refl, sym, _∙_, ap, fun-ext}
 use mathlib.Core.Bool.{Bool, true, false}
-use mathlib.Core.Option.{Option, none, some}
+use mathlib.Core.Option.{none, some}
 use mathlib.Core.List.{List, [], _∷_, _++_, map}
 use Prim.Native.Nat.{ℕ, zero, suc, _+_, _-_, _≤_, _<_}
 use native.Mathlib.Omega.{arith}
@@ -10,35 +10,33 @@ use lib.ListN.{length, getD, set, replicate, length-map}
 use Rattle.order.specs.declared.Found.the-variants.{At, Nowhere}
 use Rattle.order.specs.Rules.{firstPlace}
 use Rattle.words.specs.declared.Ty.{Ty}
-use Rattle.words.specs.declared.Ty.the-variants.{Class}
 use Rattle.words.specs.Types.{typeOf}
 use Rattle.image.specs.declared.Kind.{Kind}
 use Rattle.image.specs.declared.Kind.the-variants.{New, Cast, Value as Literal, Var, Add, Eq, Assign, Get, Set, Call, Block, Seq, If, While, Throw, Try, Unknown}
 use Rattle.image.specs.declared.Layout.{Layout}
-use Rattle.image.specs.Numbers.{variables, mostArguments, mostInputs}
+use Rattle.image.specs.Numbers.{variables}
 use Rattle.image.specs.Trailer.{classCount, methodCount, typeCount, nodeCount, inputCount, mainNode}
 use Rattle.image.specs.Records.{methodWord, typeAt, methodHolds, typeHolds}
 use Rattle.image.specs.Nodes.{nodeWord, kindOf, bodyStart, nodeHolds, filledHolds}
 use Rattle.image.specs.Layout.{Good}
 use Rattle.rules.specs.Maps.{upd, tabulate, from}
 use Rattle.rules.specs.Trees.{Expr, nodeOf, nodeTree, operand, tree, place, places}
-use Rattle.rules.specs.Program.{Program, Env, program, typesFrom, methodAt, methodEnv, main, mainEnv, inputTypes}
-use Rattle.rules.specs.Typing.{Res, ok, bad, _>>=_, need, typing}
+use Rattle.rules.specs.Program.{Program, program, typesFrom, methodAt, methodEnv, main, mainEnv, inputTypes}
+use Rattle.rules.specs.Typing.{ok, bad, _>>=_, need, typing}
 use Rattle.rules.specs.Classes.{subtype}
-use Rattle.rules.specs.Sites.{Site, sites, siteTyped}
+use Rattle.rules.specs.Sites.{sites, siteTyped}
 use Rattle.rules.specs.Numbers.{joined, methodSites, allSites, typingRule}
-use Rattle.laws.specs.Maps.{stretch, length-stretch, tabulate-same}
+use Rattle.laws.specs.Maps.{length-stretch, tabulate-same}
 use Rattle.laws.specs.Trees.{known, tree-node}
 use Rattle.laws.specs.Postorder.{body-holds, method-filled, main-filled, body-places, main-places}
-use Rattle.figures.specs.FirstBreach.{AllHold, FirstBreach, bounded, sites-length, body-exactly, body-first}
+use Rattle.figures.specs.FirstBreach.{AllHold, bounded, sites-length, body-exactly, body-first}
 use Rattle.figures.specs.Laid.{written-tree}
-use Rattle.typing.specs.declared.Typed.{Typed}
-use Rattle.typing.specs.declared.Typed.the-variants.{Is, Not}
-use Rattle.typing.specs.Env.{entry, envOf, typeWords, EnvOk, resTy, decided, within, methodTyping, mainTyping}
-use Rattle.typing.specs.EnvLaws.{env-set, ok-set, class-word, declared-below}
+use Rattle.node_rules.specs.declared.Typed.{Typed}
+use Rattle.node_rules.specs.declared.Typed.the-variants.{Is, Not}
+use Rattle.node_rules.specs.Env.{entry, envOf, typeWords, EnvOk, resTy, decided, within, methodTyping, mainTyping}
+use Rattle.node_rules.specs.EnvLaws.{env-set, ok-set, class-word, declared-below}
 use Rattle.typing.specs.ListLaws.{zero-at}
-use Rattle.typing.specs.RuleLaws.{method-arguments, method-class}
-use Rattle.figures.specs.Bodies.{Bodies, Told, told, body-told, main-told, none-told}
+use Rattle.figures.specs.Bodies.{Bodies, told, body-told, main-told, none-told}
 
 -- WHAT BODIES START WITH
 pub type-declared : (ws : List ℕ) (i : ℕ) → typeHolds ws i ≡ true → typeAt ws i < typeWords ws

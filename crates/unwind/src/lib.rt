@@ -35,7 +35,7 @@ fn unwind_try(
     match redexes::catch_redex(ws, lay, heap, c, a) {
         Catch::Catches => {
             let x = image::node_word(ws, lay, p, 3) as usize;
-            enter::push_block(room, i, p, x, CLASS + c as u64, ADDRESS + a as u64 + 1);
+            pushes::push_block(room, i, p, x, CLASS + c as u64, ADDRESS + a as u64 + 1);
             Go::Stepped(Focus::Node(p - 1), i + 1)
         }
         Catch::Passes => Go::Stepped(Focus::Thrown(a, p), i),

@@ -2,7 +2,7 @@
 use Prim.Native.Nat.{_<_}
 use Rattle.calls.proofs.back_call.Statement.{statement}
 use Rattle.calls.specs.CallLaws.{few}
-use Rattle.enter.specs.EnterLaws.{call-operand}
+use Rattle.pushes.specs.EnterLaws.{call-operand}
 use Rattle.image.specs.Nodes.{nodeWord}
 use Rattle.room.specs.Back.{is-call}
 use Rattle.room.specs.Calls.{more-moves}

@@ -1,6 +1,6 @@
 -- `enter::behind_first` meets its contract.
 use Rattle.enter.proofs.behind_first.Statement.{statement}
-use Rattle.enter.specs.Kinds.{first-one}
+use Rattle.pushes.specs.Kinds.{first-one}
 use Rattle.image.specs.Nodes.{kindOf, operands}
 use Rattle.enter.proofs.behind_first.Tie as tie
 

@@ -1,6 +1,6 @@
 -- `enter::enter` meets its contract.
 use Rattle.enter.proofs.enter.Statement.{statement}
-use Rattle.enter.specs.Kinds.{first-shape}
+use Rattle.pushes.specs.Kinds.{first-shape}
 use Rattle.room.specs.Enter.{enter-value}
 use Rattle.room.specs.Nodes.{kind-below}
 use borrow.Author.Needs.{needs}

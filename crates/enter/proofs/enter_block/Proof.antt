@@ -1,6 +1,6 @@
 -- `enter::enter_block` meets its contract.
 use Rattle.enter.proofs.enter_block.Statement.{statement}
-use Rattle.enter.specs.EnterLaws.{block-operand, holds-at, not-first}
+use Rattle.pushes.specs.EnterLaws.{block-operand, holds-at, not-first}
 use Rattle.room.specs.Nodes.{block-local, enter-block}
 use Rattle.rules.specs.Trees.{operand}
 use borrow.Author.Needs.{needs}

@@ -1,6 +1,6 @@
 -- `enter::enter_call` meets its contract.
 use Rattle.enter.proofs.enter_call.Statement.{statement}
-use Rattle.enter.specs.EnterLaws.{call-operand}
+use Rattle.pushes.specs.EnterLaws.{call-operand}
 use Rattle.room.specs.Enter.{enter-call}
 use borrow.Author.Needs.{needs}
 use mathlib.Core.Path.{refl}

@@ -1,6 +1,6 @@
 -- `enter::enter_first` meets its contract.
 use Rattle.enter.proofs.enter_first.Statement.{statement}
-use Rattle.enter.specs.EnterLaws.{first-operand}
+use Rattle.pushes.specs.EnterLaws.{first-operand}
 use Rattle.room.specs.Enter.{enter-first}
 use borrow.Author.Needs.{needs}
 use mathlib.Core.Path.{refl}

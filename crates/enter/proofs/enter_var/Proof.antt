@@ -1,6 +1,6 @@
 -- `enter::enter_var` meets its contract.
 use Rattle.enter.proofs.enter_var.Statement.{statement}
-use Rattle.enter.specs.EnterLaws.{holds-at}
+use Rattle.pushes.specs.EnterLaws.{holds-at}
 use Rattle.room.specs.Nodes.{var-halts, var-local, var-steps}
 use borrow.Author.Needs.{needs}
 use mathlib.Core.Path.{refl}

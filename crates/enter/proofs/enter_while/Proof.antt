@@ -1,6 +1,6 @@
 -- `enter::enter_while` meets its contract.
 use Rattle.enter.proofs.enter_while.Statement.{statement}
-use Rattle.enter.specs.EnterLaws.{while-operand}
+use Rattle.pushes.specs.EnterLaws.{while-operand}
 use Rattle.room.specs.Nodes.{while-steps}
 use borrow.Author.Needs.{needs}
 use mathlib.Core.Path.{refl}

@@ -9,8 +9,8 @@ use Rattle.image_check.proofs.check_rules.Statement.{statement}
 use Rattle.image_check.proofs.check_rules.Tie as tie
 use Rattle.image_check.proofs.check_rules.Reads as reads
 use Rattle.image_check.proofs.check_rules.Lts as lts
-use Rattle.classes.proofs.fields_place.Reads as fields-place-reads
-use Rattle.classes.proofs.override_place.Reads as override-place-reads
+use Rattle.class_rules.proofs.fields_place.Reads as fields-place-reads
+use Rattle.class_rules.proofs.override_place.Reads as override-place-reads
 use Rattle.setting.proofs.unset_place.Reads as unset-place-reads
 use Rattle.typing.proofs.untyped_place.Reads as untyped-place-reads
 

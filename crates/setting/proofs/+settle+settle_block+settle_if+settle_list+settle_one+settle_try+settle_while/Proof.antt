@@ -8,7 +8,7 @@ use Rattle.rules.specs.Trees.{arguments}
 use Rattle.setting.proofs.+settle+settle_block+settle_if+settle_list+settle_one+settle_try+settle_while.{statement}
 use Rattle.setting.proofs.+settle+settle_block+settle_if+settle_list+settle_one+settle_try+settle_while.Tie.{close}
 use Rattle.setting.specs.Settle.{after-block, after-if, after-plain, after-try, after-while, below, block-operands, if-on, if-operands, if-stop, inBlock, inTry, list-end, list-on, list-stop, node-names, try-operands, while-body, while-end, while-operands, while-stop}
-use Rattle.setting.specs.Vars.{varsOf}
+use Rattle.vars.specs.Vars.{varsOf}
 use borrow.Author.Needs.{needs}
 use borrow.Author.Tests.{not-false, not-true}
 use borrow.Fn.Kinds.{In}
@@ -38,11 +38,11 @@ use Rattle.setting.proofs.settle_while.Kinds as settle-while-kinds
 use Rattle.setting.proofs.+settle+settle_block+settle_if+settle_list+settle_one+settle_try+settle_while.Lts-settle_while as settle-while-lts
 use Rattle.image.proofs.kind_of.Reads as kind-of-reads
 use Rattle.image.proofs.node_word.Reads as node-word-reads
-use Rattle.nodes.proofs.operand_count.Reads as operand-count-reads
+use Rattle.kinds.proofs.operand_count.Reads as operand-count-reads
 use Rattle.operands.proofs.operand_place.Reads as operand-place-reads
-use Rattle.setting.proofs.Vars.has.Reads as has-reads
-use Rattle.setting.proofs.Vars.with.Reads as with-reads
-use Rattle.setting.proofs.Vars.without.Reads as without-reads
+use Rattle.vars.proofs.Vars.has.Reads as has-reads
+use Rattle.vars.proofs.Vars.with.Reads as with-reads
+use Rattle.vars.proofs.Vars.without.Reads as without-reads
 use Rattle.setting.proofs.both.Reads as both-reads
 use Rattle.setting.proofs.finish.Reads as finish-reads
 use Rattle.setting.proofs.given_back.Reads as given-back-reads

@@ -2,8 +2,8 @@
 use Prim.Native.Nat.{_*_, _-_, _<_, suc, ℕ}
 use Rattle.typing.proofs.+type_list+type_node+type_operand.{statement}
 use Rattle.typing.proofs.+type_list+type_node+type_operand.Tie.{close}
-use Rattle.typing.specs.Env.{operandEnv, operandTyping}
-use Rattle.typing.specs.EnvLaws.{given-back, node-holds, ok-set, operand-known}
+use Rattle.node_rules.specs.Env.{operandEnv, operandTyping}
+use Rattle.node_rules.specs.EnvLaws.{given-back, node-holds, ok-set, operand-known}
 use Rattle.typing.specs.ListLaws.{known-zeros, list-bad, list-end, list-on, list-start, Listing, type-node as node-typing}
 use borrow.Author.Needs.{needs}
 use borrow.Fn.Kinds.{In}

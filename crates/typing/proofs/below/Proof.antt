@@ -1,6 +1,6 @@
 -- `typing::below` meets its contract.
 use Rattle.typing.proofs.below.Statement.{statement}
-use Rattle.typing.specs.EnvLaws.{word-type}
+use Rattle.node_rules.specs.EnvLaws.{word-type}
 use Rattle.typing.specs.Untyped.{within-bad, within-ok}
 use borrow.Author.Needs.{needs}
 use Rattle.typing.proofs.below.Tie as tie

@@ -5,7 +5,7 @@ use Rattle.image.specs.declared.Kind.the-variants.{New, Cast, Value as Literal,
 use Rattle.image.specs.Numbers.{variables}
 use Rattle.image.proofs.Kind as kind
 use Rattle.typing.proofs.bound_by.Statement.{statement}
-use Rattle.typing.specs.Env.{boundVar, boundWord}
+use Rattle.node_rules.specs.Env.{boundVar, boundWord}
 use borrow.Author.Needs.{needs}
 use denote.Enum.Declared.{tagOf}
 use mathlib.Core.List.{List, [], _∷_}

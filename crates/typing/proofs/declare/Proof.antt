@@ -2,7 +2,7 @@
 use Prim.Native.Nat.{_+_, _-_, _<_}
 use Rattle.image.specs.Trailer.{typeCount}
 use Rattle.typing.proofs.declare.Statement.{statement}
-use Rattle.typing.specs.Env.{typeWords}
+use Rattle.node_rules.specs.Env.{typeWords}
 use Rattle.typing.specs.Untyped.{declare-end, declare-on, declare-start, Declaring, type-declared}
 use borrow.Author.Needs.{needs}
 use mathlib.Core.Path.{_∙_, sym}

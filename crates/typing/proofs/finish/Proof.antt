@@ -1,6 +1,6 @@
 -- `typing::finish` meets its contract.
 use Rattle.typing.proofs.finish.Statement.{statement}
-use Rattle.typing.specs.EnvLaws.{node-names}
+use Rattle.node_rules.specs.EnvLaws.{node-names}
 use Rattle.typing.specs.ListLaws.{finish-bad, finish-ok}
 use borrow.Author.Needs.{needs}
 use borrow.Author.Tests.{not-false, not-true}

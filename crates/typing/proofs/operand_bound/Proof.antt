@@ -1,7 +1,7 @@
 -- `typing::operand_bound` meets its contract.
 use Rattle.typing.proofs.operand_bound.Statement.{statement}
-use Rattle.typing.specs.Env.{operandVar, operandWord}
-use Rattle.typing.specs.EnvLaws.{operand-var-other, word-small}
+use Rattle.node_rules.specs.Env.{operandVar, operandWord}
+use Rattle.node_rules.specs.EnvLaws.{operand-var-other, word-small}
 use borrow.Author.Needs.{needs}
 use mathlib.Core.Path.{refl, sym}
 use Rattle.typing.proofs.operand_bound.Tie as tie

@@ -1,6 +1,6 @@
 -- `typing::operand_total` meets its contract.
 use Rattle.typing.proofs.operand_total.Statement.{statement}
-use Rattle.typing.specs.EnvLaws.{few-operands}
+use Rattle.node_rules.specs.EnvLaws.{few-operands}
 use borrow.Author.Needs.{needs}
 use mathlib.Core.Path.{refl}
 use Rattle.typing.proofs.operand_total.Tie as tie

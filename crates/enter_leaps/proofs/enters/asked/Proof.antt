@@ -1,5 +1,5 @@
 -- `enter_leaps::enters::asked` meets its contract.
-use Rattle.enter.specs.EnterLaws.{while-operand}
+use Rattle.pushes.specs.EnterLaws.{while-operand}
 use Rattle.enter_leaps.proofs.enters.asked.Statement.{statement}
 use Rattle.enter_leaps.specs.EnterLaps.{after-first, first-one, if-operand}
 use Rattle.rules.specs.Trees.{operand}

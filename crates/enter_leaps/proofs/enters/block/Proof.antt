@@ -1,5 +1,5 @@
 -- `enter_leaps::enters::block` meets its contract.
-use Rattle.enter.specs.EnterLaws.{block-operand, not-first}
+use Rattle.pushes.specs.EnterLaws.{block-operand, not-first}
 use Rattle.enter_leaps.proofs.enters.block.Statement.{statement}
 use Rattle.enter_leaps.specs.EnterLaps.{block-leaps}
 use Rattle.landings.specs.LandsLaws.{lands-node}

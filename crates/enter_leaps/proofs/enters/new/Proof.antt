@@ -1,5 +1,5 @@
 -- `enter_leaps::enters::new` meets its contract.
-use Rattle.enter.specs.NewLaws.{new-opens, new-steps}
+use Rattle.fresh.specs.NewLaws.{new-opens, new-steps}
 use Rattle.enter_leaps.proofs.enters.new.Statement.{statement}
 use Rattle.quick.specs.KnownLaws.{tabled}
 use Rattle.landings.specs.LandsLaws.{lands-still, lands-value}

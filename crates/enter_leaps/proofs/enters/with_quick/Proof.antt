@@ -1,5 +1,5 @@
 -- `enter_leaps::enters::with_quick` meets its contract.
-use Rattle.enter.specs.EnterLaws.{not-first, while-operand}
+use Rattle.pushes.specs.EnterLaws.{not-first, while-operand}
 use Rattle.enter_leaps.proofs.enters.with_quick.Statement.{statement}
 use Rattle.enter_leaps.specs.EnterLaps.{quickly-whole}
 use borrow.Author.Needs.{needs}

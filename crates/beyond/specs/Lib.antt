@@ -1,0 +1,2 @@
+-- Laws of a node that is too deep.
+pub mod Beyond

@@ -1,0 +1,2 @@
+-- Laws of values that fit their types.
+pub mod FitLaws

@@ -1,0 +1,2 @@
+-- Laws of New.
+pub mod NewLaws
