@@ -4,22 +4,20 @@ ghost use mathlib.Core.Path.{_≡_};
 ghost use mathlib.Core.Bool.{true, _&&_};
 ghost use mathlib.Core.List.{[], _∷_};
 ghost use Prim.Native.Nat.{suc, _+_, _≤_, _<_};
-ghost use lib.ListN.{getD, set};
+ghost use lib.ListN.{getD};
 ghost use lib.Dec.{eqb, leb};
 ghost use Rattle.words.specs.Types.{typeOf};
 ghost use Rattle.image.specs.declared.Kind.the-variants.{Cast, Var, Eq, Assign, Get, Set, Call};
 ghost use Rattle.image.specs.Numbers.{variables, mostArguments, highestName, writtenTags};
 ghost use Rattle.image.specs.Trailer.{classCount};
-ghost use Rattle.image.specs.Nodes.{namesHold, operands};
 ghost use Rattle.image.specs.Layout.{Good};
-ghost use Rattle.rules.specs.Maps.{tabulate, from};
+ghost use Rattle.rules.specs.Maps.{tabulate};
 ghost use Rattle.rules.specs.Program.{program, typesFrom};
 ghost use Rattle.rules.specs.Classes.{subtypes};
 ghost use Rattle.node_rules.specs.Env.{typeWords, envOf, EnvOk, Answers, AllKnown, decided, literalWord, nowhere, typesOf};
 ghost use Rattle.node_rules.specs.Node.{nodeRule};
 use classes::Members;
 use classes::Seen;
-use image::Kind;
 use image::Layout;
 use words::BOOLEAN;
 use words::FIRST_CLASS;
@@ -48,7 +46,7 @@ pub fn decide(b: bool, n: usize, t: u32) -> Typed
 }
 
 // The type of a written value, by its tag.
-fn literal_rule(x: u32) -> u32
+pub fn literal_rule(x: u32) -> u32
     requires { ⌜ x < writtenTags ⌝ }
     ensures { λ r. ⌜ r ≡ literalWord x ⌝ }
 {
@@ -60,40 +58,40 @@ fn literal_rule(x: u32) -> u32
     }
 }
 
-fn add_rule(n: usize, a: u32, b: u32) -> Typed
+pub fn add_rule(n: usize, a: u32, b: u32) -> Typed
     ensures { λ r. ⌜ r ≡ decided (eqb a 2 && eqb b 2) n 2 ⌝ }
 {
     decide((a == INTEGER) & (b == INTEGER), n, INTEGER)
 }
 
 // Both arms have the same type.
-fn if_rule(n: usize, test: u32, a: u32, b: u32) -> Typed
+pub fn if_rule(n: usize, test: u32, a: u32, b: u32) -> Typed
     ensures { λ r. ⌜ r ≡ decided (eqb test 1 && eqb a b) n a ⌝ }
 {
     decide((test == BOOLEAN) & (a == b), n, a)
 }
 
-fn while_rule(n: usize, test: u32) -> Typed
+pub fn while_rule(n: usize, test: u32) -> Typed
     ensures { λ r. ⌜ r ≡ decided (eqb test 1) n 0 ⌝ }
 {
     decide(test == BOOLEAN, n, VOID)
 }
 
 // Any object may be thrown. A Throw says itself what type it has.
-fn throw_rule(n: usize, t: u32, x: u32) -> Typed
+pub fn throw_rule(n: usize, t: u32, x: u32) -> Typed
     ensures { λ r. ⌜ r ≡ decided (leb 4 t) n x ⌝ }
 {
     decide(FIRST_CLASS <= t, n, x)
 }
 
-fn try_rule(n: usize, a: u32, b: u32) -> Typed
+pub fn try_rule(n: usize, a: u32, b: u32) -> Typed
     ensures { λ r. ⌜ r ≡ decided (eqb a b) n a ⌝ }
 {
     decide(a == b, n, a)
 }
 
 // A cast goes up or down.
-fn cast_rule(ws: &[u32], l: Layout, n: usize, x: u32, t: u32) -> Typed
+pub fn cast_rule(ws: &[u32], l: Layout, n: usize, x: u32, t: u32) -> Typed
     requires { ⌜ Good (now ws) l × (x < classCount (now ws)) × (t < typeWords (now ws)) ⌝ }
     ensures { λ r. ⌜ Answers (now (ws .entry)) r (nodeRule (program (now (ws .entry))) nowhere Cast n x 0 (typeOf t ∷ [])) ⌝ }
 {
@@ -110,7 +108,7 @@ fn cast_rule(ws: &[u32], l: Layout, n: usize, x: u32, t: u32) -> Typed
 }
 
 // One of the two types is a subtype of the other.
-fn eq_rule(ws: &[u32], l: Layout, n: usize, a: u32, b: u32) -> Typed
+pub fn eq_rule(ws: &[u32], l: Layout, n: usize, a: u32, b: u32) -> Typed
     requires { ⌜ Good (now ws) l × (a < typeWords (now ws)) × (b < typeWords (now ws)) ⌝ }
     ensures { λ r. ⌜ Answers (now (ws .entry)) r (nodeRule (program (now (ws .entry))) nowhere Eq n 0 0 (typeOf a ∷ typeOf b ∷ [])) ⌝ }
 {
@@ -121,7 +119,7 @@ fn eq_rule(ws: &[u32], l: Layout, n: usize, a: u32, b: u32) -> Typed
     )
 }
 
-fn var_rule(ws: &[u32], env: &[u32], n: usize, x: u32) -> Typed
+pub fn var_rule(ws: &[u32], env: &[u32], n: usize, x: u32) -> Typed
     requires { ⌜ EnvOk (now ws) (now env) × (x < variables) ⌝ }
     ensures { λ r. ⌜ Answers (now (ws .entry)) r (nodeRule (program (now (ws .entry))) (envOf (now (env .entry))) Var n x 0 []) ⌝ }
 {
@@ -133,7 +131,7 @@ fn var_rule(ws: &[u32], env: &[u32], n: usize, x: u32) -> Typed
 }
 
 // Nothing is assigned to variable 0, which is `this`.
-fn assign_rule(ws: &[u32], l: Layout, env: &[u32], n: usize, x: u32, t: u32) -> Typed
+pub fn assign_rule(ws: &[u32], l: Layout, env: &[u32], n: usize, x: u32, t: u32) -> Typed
     requires { ⌜ Good (now ws) l × EnvOk (now ws) (now env) × (x < variables) × (t < typeWords (now ws)) ⌝ }
     ensures { λ r. ⌜ Answers (now (ws .entry)) r (nodeRule (program (now (ws .entry))) (envOf (now (env .entry))) Assign n x 0 (typeOf t ∷ [])) ⌝ }
 {
@@ -145,7 +143,7 @@ fn assign_rule(ws: &[u32], l: Layout, env: &[u32], n: usize, x: u32, t: u32) -> 
 }
 
 // The class sees a field of the name, and the class that declares it is the one that the node says.
-fn get_rule(ws: &[u32], l: Layout, n: usize, x: u32, y: u32, t: u32) -> Typed
+pub fn get_rule(ws: &[u32], l: Layout, n: usize, x: u32, y: u32, t: u32) -> Typed
     requires { ⌜ Good (now ws) l × (x ≤ highestName) × (t < typeWords (now ws)) ⌝ }
     ensures { λ r. ⌜ Answers (now (ws .entry)) r (nodeRule (program (now (ws .entry))) nowhere Get n x y (typeOf t ∷ [])) ⌝ }
 {
@@ -160,7 +158,7 @@ fn get_rule(ws: &[u32], l: Layout, n: usize, x: u32, y: u32, t: u32) -> Typed
 }
 
 // The same for a field that is set. The value's type is below the field's.
-fn set_rule(ws: &[u32], l: Layout, n: usize, x: u32, y: u32, t: u32, u: u32) -> Typed
+pub fn set_rule(ws: &[u32], l: Layout, n: usize, x: u32, y: u32, t: u32, u: u32) -> Typed
     requires { ⌜ Good (now ws) l × (x ≤ highestName) × (t < typeWords (now ws)) × (u < typeWords (now ws)) ⌝ }
     ensures { λ r. ⌜ Answers (now (ws .entry)) r (nodeRule (program (now (ws .entry))) nowhere Set n x y (typeOf t ∷ typeOf u ∷ [])) ⌝ }
 {
@@ -203,7 +201,7 @@ fn args_below(
 }
 
 // The class sees a method of the name, and its parameters take the arguments.
-fn call_rule(ws: &[u32], l: Layout, n: usize, x: u32, y: u32, types: [u32; 9]) -> Typed
+pub fn call_rule(ws: &[u32], l: Layout, n: usize, x: u32, y: u32, types: [u32; 9]) -> Typed
     requires { ⌜ Good (now ws) l × (x ≤ highestName) × (y ≤ mostArguments) × AllKnown (now ws) types ⌝ }
     ensures { λ r. ⌜ Answers (now (ws .entry)) r (nodeRule (program (now (ws .entry))) nowhere Call n x y (typesOf (suc y) types)) ⌝ }
 {
@@ -220,40 +218,5 @@ fn call_rule(ws: &[u32], l: Layout, n: usize, x: u32, y: u32, types: [u32; 9]) -
             decide(below, n, image::method_word(ws, l, i, 2))
         },
         Seen::Nothing => Typed::Not(n),
-    }
-}
-
-// The type of node n from its operands' types: its own premises.
-pub fn node_rule(
-    ws: &[u32],
-    l: Layout,
-    env: &[u32],
-    k: Kind,
-    n: usize,
-    x: u32,
-    y: u32,
-    types: [u32; 9],
-) -> Typed
-    requires { ⌜ Good (now ws) l × EnvOk (now ws) (now env) × (namesHold (classCount (now ws)) k x y ≡ true) × AllKnown (now ws) types ⌝ }
-    ensures { λ r. ⌜ Answers (now (ws .entry)) r (nodeRule (program (now (ws .entry))) (envOf (now (env .entry))) k n x y (typesOf (operands k y) types)) ⌝ }
-{
-    match k {
-        Kind::New => Typed::Is(FIRST_CLASS + x),
-        Kind::Cast => cast_rule(ws, l, n, x, types[0]),
-        Kind::Value => Typed::Is(literal_rule(x)),
-        Kind::Var => var_rule(ws, env, n, x),
-        Kind::Add => add_rule(n, types[0], types[1]),
-        Kind::Eq => eq_rule(ws, l, n, types[0], types[1]),
-        Kind::Assign => assign_rule(ws, l, env, n, x, types[0]),
-        Kind::Get => get_rule(ws, l, n, x, y, types[0]),
-        Kind::Set => set_rule(ws, l, n, x, y, types[0], types[1]),
-        Kind::Call => call_rule(ws, l, n, x, y, types),
-        Kind::Block => Typed::Is(types[0]),
-        Kind::Seq => Typed::Is(types[1]),
-        Kind::If => if_rule(n, types[0], types[1], types[2]),
-        Kind::While => while_rule(n, types[0]),
-        Kind::Throw => throw_rule(n, types[0], x),
-        Kind::Try => try_rule(n, types[0], types[1]),
-        Kind::Unknown => Typed::Not(n),
     }
 }

@@ -35,7 +35,7 @@ use Rattle.node_rules.specs.declared.Typed.{Typed}
 use Rattle.node_rules.specs.declared.Typed.the-variants.{Is, Not}
 use Rattle.node_rules.specs.Env.{entry, envOf, typeWords, EnvOk, resTy, decided, within, methodTyping, mainTyping}
 use Rattle.node_rules.specs.EnvLaws.{env-set, ok-set, class-word, declared-below}
-use Rattle.typing.specs.ListLaws.{zero-at}
+use Rattle.node_types.specs.ListLaws.{zero-at}
 use Rattle.figures.specs.Bodies.{Bodies, told, body-told, main-told, none-told}
 
 -- WHAT BODIES START WITH

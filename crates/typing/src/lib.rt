@@ -4,8 +4,8 @@
 ghost use mathlib.Core.Path.{_≡_};
 ghost use mathlib.Core.Bool.{true};
 ghost use Prim.Native.Nat.{ℕ, _+_, _≤_, _<_};
-ghost use lib.ListN.{getD, set};
-ghost use Rattle.image.specs.Numbers.{variables, mostArguments, mostClasses};
+ghost use lib.ListN.{getD};
+ghost use Rattle.image.specs.Numbers.{mostArguments};
 ghost use Rattle.image.specs.Nodes.{operands};
 ghost use Rattle.image.specs.Layout.{Good};
 ghost use Rattle.laws.specs.Trees.{operandCount};
@@ -15,96 +15,12 @@ ghost use Rattle.rules.specs.Numbers.{typingRule};
 ghost use Rattle.rules.specs.Trees.{tree};
 ghost use Rattle.rules.specs.Typing.{typing as Typing·typing};
 ghost use Rattle.rules.specs.Program.{program, typesFrom};
-ghost use Rattle.node_rules.specs.Env.{envOf, EnvOk, Answers, Known, AllKnown, Lists, resTys, boundVar, boundWord, operandVar, operandWord, operandTyping, operandsTyping, ruleOf, resTy, within, methodTyping, mainTyping};
-use image::Kind;
+ghost use Rattle.node_rules.specs.Env.{envOf, EnvOk, Answers, Known, Lists, operandTyping, operandsTyping, resTy, within, methodTyping, mainTyping};
 use image::Layout;
 use node_rules::Typed;
 use node_rules::Types;
 use order::Found;
 use words::FIRST_CLASS;
-
-// A variable that is bound, as a number, and the word of its type.
-struct Bound {
-    variable: usize,
-    word: u32,
-}
-
-// What a node binds for its last operand.
-fn bound_by(k: Kind, x: u32, y: u32) -> Bound
-    requires { ⌜ boundWord k x y ≤ 4 + mostClasses ⌝ }
-    ensures { λ r. ⌜ (r .variable ≡ boundVar k x y) × (r .word ≡ boundWord k x y) ⌝ }
-{
-    match k {
-        Kind::Block => Bound {
-            variable: x as usize,
-            word: y + 1,
-        },
-        Kind::Try => Bound {
-            variable: y as usize,
-            word: FIRST_CLASS + 1 + x,
-        },
-        _ => Bound {
-            variable: image::VARIABLES as usize,
-            word: 0,
-        },
-    }
-}
-
-// What node n binds for the operand that has j others behind it: only the last has a variable of its own.
-fn operand_bound(ws: &[u32], l: Layout, n: usize, j: usize) -> Bound
-    requires { ⌜ Good (now ws) l × (n < l .«node_count») ⌝ }
-    ensures { λ r. ⌜ (r .variable ≡ operandVar (now (ws .entry)) n j) × (r .word ≡ operandWord (now (ws .entry)) n) ⌝ }
-{
-    let k = image::kind_of(image::node_word(ws, l, n, 0));
-    let x = image::node_word(ws, l, n, 2);
-    let y = image::node_word(ws, l, n, 3);
-    let b = bound_by(k, x, y);
-    if j == 0 {
-        b
-    } else {
-        Bound {
-            variable: image::VARIABLES as usize,
-            word: b.word,
-        }
-    }
-}
-
-// Sets a variable's word and gives back the one that it had. A number that is no variable changes nothing.
-fn bind(env: &mut [u32], v: usize, w: u32) -> u32
-    ensures { λ r. ⌜ (now (env .exit) ≡ set (now (env .entry)) v w) × (r ≡ getD (now (env .entry)) v 0) ⌝ }
-{
-    if v < env.len() {
-        let old = env[v];
-        env[v] = w;
-        old
-    } else {
-        0
-    }
-}
-
-// How many operands node n has.
-fn operand_total(ws: &[u32], l: Layout, n: usize) -> usize
-    requires { ⌜ Good (now ws) l × (n < l .«node_count») ⌝ }
-    ensures { λ r. ⌜ (r ≡ operandCount (now (ws .entry)) n) × (r ≤ 9) ⌝ }
-{
-    let k = image::kind_of(image::node_word(ws, l, n, 0));
-    kinds::operand_count(k, image::node_word(ws, l, n, 3))
-}
-
-// Node n's type, when its operands have been typed.
-fn finish(ws: &[u32], l: Layout, env: &[u32], n: usize, r: Types) -> Typed
-    requires { ⌜ Good (now ws) l × EnvOk (now ws) (now env) × (n < l .«node_count») × AllKnown (now ws) (r .types) ⌝ }
-    ensures { λ t. ⌜ Answers (now (ws .entry)) t (ruleOf (now (ws .entry)) n (now (env .entry)) (resTys (operandCount (now (ws .entry)) n) r)) ⌝ }
-{
-    if !r.ok {
-        return Typed::Not(r.place);
-    }
-    let k = image::kind_of(image::node_word(ws, l, n, 0));
-    let x = image::node_word(ws, l, n, 2);
-    let y = image::node_word(ws, l, n, 3);
-    let types = r.types;
-    node_rules::node_rule(ws, l, env, k, n, x, y, types)
-}
 
 // The type of node n. Its operands are typed first: they have lower numbers.
 fn type_node(ws: &[u32], l: Layout, env: &mut [u32], n: usize) -> Typed
@@ -112,7 +28,7 @@ fn type_node(ws: &[u32], l: Layout, env: &mut [u32], n: usize) -> Typed
     ensures { λ r. ⌜ Answers (now (ws .entry)) r (Typing·typing (program (now (ws .entry))) (tree (now (ws .entry)) n) (envOf (now (env .entry)))) × (now (env .exit) ≡ now (env .entry)) ⌝ }
 {
     let types = type_list(ws, l, env, n);
-    finish(ws, l, env, n, types)
+    node_types::finish(ws, l, env, n, types)
 }
 
 // The types of node n's operands, first to last.
@@ -120,7 +36,7 @@ fn type_list(ws: &[u32], l: Layout, env: &mut [u32], n: usize) -> Types
     requires { ⌜ Good (now ws) l × EnvOk (now ws) (now env) × (n < l .«node_count») ⌝ }
     ensures { λ r. ⌜ Lists (now (ws .entry)) (operandCount (now (ws .entry)) n) r (operandsTyping (now (ws .entry)) n (now (env .entry))) × (now (env .exit) ≡ now (env .entry)) ⌝ }
 {
-    let count = operand_total(ws, l, n);
+    let count = node_types::operand_total(ws, l, n);
     let mut types = [0u32; 9];
     let mut i = 0;
     while i < count {
@@ -151,11 +67,11 @@ fn type_operand(ws: &[u32], l: Layout, env: &mut [u32], n: usize, j: usize) -> T
     ensures { λ r. ⌜ Answers (now (ws .entry)) r (operandTyping (now (ws .entry)) n j (now (env .entry))) × (now (env .exit) ≡ now (env .entry)) ⌝ }
 {
     let m = operands::operand_place(ws, l, n, j);
-    let b = operand_bound(ws, l, n, j);
+    let b = node_types::operand_bound(ws, l, n, j);
     let v = b.variable;
-    let old = bind(env, v, b.word);
+    let old = node_types::bind(env, v, b.word);
     let r = type_node(ws, l, env, m);
-    bind(env, v, old);
+    node_types::bind(env, v, old);
     r
 }
 

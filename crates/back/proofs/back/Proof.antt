@@ -1,6 +1,6 @@
 -- `back::back` meets its contract.
 use Rattle.back.proofs.back.Statement.{statement}
-use Rattle.back.specs.FrameLaws.{node-first, node-second}
+use Rattle.comes.specs.FrameLaws.{node-first, node-second}
 use Rattle.room.specs.Room.{shapeOf}
 use borrow.Author.Needs.{needs}
 use mathlib.Core.Path.{refl}

@@ -1,7 +1,7 @@
 -- `back::back_plain` meets its contract.
 use Rattle.back.proofs.back_plain.Statement.{statement}
-use Rattle.back.specs.ComesLaws.{loop-turned, seq-turned, try-turned}
-use Rattle.back.specs.FrameLaws.{first-shape, inner, inner-first, node-first, node-second, node-test, tag-left}
+use Rattle.comes.specs.ComesLaws.{loop-turned, seq-turned, try-turned}
+use Rattle.comes.specs.FrameLaws.{first-shape, inner, inner-first, node-first, node-second, node-test, tag-left}
 use Rattle.image.specs.Nodes.{kindOf, operands}
 use Rattle.room.specs.Room.{shapeOf}
 use Rattle.room.specs.RoomLaws.{fit-variable}

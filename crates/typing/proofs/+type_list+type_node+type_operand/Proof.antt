@@ -4,7 +4,7 @@ use Rattle.typing.proofs.+type_list+type_node+type_operand.{statement}
 use Rattle.typing.proofs.+type_list+type_node+type_operand.Tie.{close}
 use Rattle.node_rules.specs.Env.{operandEnv, operandTyping}
 use Rattle.node_rules.specs.EnvLaws.{given-back, node-holds, ok-set, operand-known}
-use Rattle.typing.specs.ListLaws.{known-zeros, list-bad, list-end, list-on, list-start, Listing, type-node as node-typing}
+use Rattle.node_types.specs.ListLaws.{known-zeros, list-bad, list-end, list-on, list-start, Listing, type-node as node-typing}
 use borrow.Author.Needs.{needs}
 use borrow.Fn.Kinds.{In}
 use borrow.Fn.PlainCycle.{and, falls, is, Measures}
@@ -21,10 +21,10 @@ use Rattle.typing.proofs.type_operand.Reads as type-operand
 use Rattle.typing.proofs.type_operand.Kinds as type-operand-kinds
 use Rattle.typing.proofs.+type_list+type_node+type_operand.Lts-type_operand as type-operand-lts
 use Rattle.operands.proofs.operand_place.Reads as operand-place-reads
-use Rattle.typing.proofs.bind.Reads as bind-reads
-use Rattle.typing.proofs.finish.Reads as finish-reads
-use Rattle.typing.proofs.operand_bound.Reads as operand-bound-reads
-use Rattle.typing.proofs.operand_total.Reads as operand-total-reads
+use Rattle.node_types.proofs.bind.Reads as bind-reads
+use Rattle.node_types.proofs.finish.Reads as finish-reads
+use Rattle.node_types.proofs.operand_bound.Reads as operand-bound-reads
+use Rattle.node_types.proofs.operand_total.Reads as operand-total-reads
 
 abbrev μ-type-list : Measures 2 type-list-kinds.ps ℕ
 μ-type-list κs a = suc (3 * (a .1 .1 .1 .0))

@@ -1,6 +1,6 @@
 -- `typing::type_main` meets its contract.
 use Rattle.typing.proofs.type_main.Statement.{statement}
-use Rattle.typing.specs.ListLaws.{zero-at}
+use Rattle.node_types.specs.ListLaws.{zero-at}
 use Rattle.typing.specs.Untyped.{main-env, main-typing, main-within, zeros-ok}
 use borrow.Author.Needs.{needs}
 use mathlib.Core.Path.{_∙_}

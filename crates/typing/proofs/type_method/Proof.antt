@@ -3,7 +3,7 @@ use Prim.Native.Nat.{_<_}
 use Rattle.image.specs.Trailer.{classCount}
 use Rattle.typing.proofs.type_method.Statement.{statement}
 use Rattle.node_rules.specs.EnvLaws.{ok-set}
-use Rattle.typing.specs.ListLaws.{zero-at}
+use Rattle.node_types.specs.ListLaws.{zero-at}
 use Rattle.node_rules.specs.RuleLaws.{method-arguments, method-class}
 use Rattle.typing.specs.Untyped.{body-node-holds, body-within, method-env, method-holds, method-typing, zeros-ok}
 use borrow.Author.Needs.{needs}

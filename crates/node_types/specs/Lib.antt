@@ -1,0 +1,2 @@
+-- Laws of a node's operands.
+pub mod ListLaws
