@@ -29,7 +29,7 @@ pub fn answer() {
     }
     let mut space = files::space();
     let most = 524288;
-    let mut words = [0u32; 131072];
+    let mut words = cases::words();
     let image = files::image(2, &mut space[0..most], &mut words);
     if failed(image.fault, 2) {
         return;
@@ -60,7 +60,7 @@ fn ask(question: &[u8], image: &[u32]) {
         return;
     }
     let mut space = files::space();
-    let mut words = [0u64; 131072];
+    let mut words = cases::one_part();
     let heap = files::words(3, &mut space, &mut words);
     if failed(heap.fault, 3) {
         return;

@@ -77,13 +77,17 @@ fn of_line(q: Asked, h: Head, l: Line) -> u64
     if LONGEST_NAME < h.to - h.from {
         return LONG_NAME;
     }
-    if h.has_more | (l.bars < 2) {
+    if h.has_more {
         return cases::NO_BAR;
     }
-    if (l.fault == 0) & (l.bars != q.parts + 1) {
-        return cases::MANY_PARTS;
+    if (l.fault != 0) | (l.bars == q.parts + 1) {
+        return l.fault;
     }
-    l.fault
+    if l.bars < 2 {
+        cases::NO_BAR
+    } else {
+        cases::MANY_PARTS
+    }
 }
 
 // Of the parts that are one number each, the first is a room.
@@ -92,7 +96,7 @@ fn of_singles(q: Asked, numbers: &[u64], bars: &[usize; 16]) -> Fault {
     let mut kind = 0;
     if part > 0 {
         kind = NOT_ONE;
-    } else if MOST_ROOM < parts::single(numbers, bars, q.many) {
+    } else if (q.many < q.parts) & (MOST_ROOM < parts::single(numbers, bars, q.many)) {
         kind = LONG_ROOM;
     }
     Fault {

@@ -57,7 +57,13 @@ fn fill(r: Reader, piece: &mut [u8]) -> Reader
 }
 
 // Reads on, to the end of the line or of the piece.
-fn take(r: Reader, piece: &mut [u8], head: &mut [u8], numbers: &mut [u64], bars: &mut [usize; 16]) -> Reader
+fn take(
+    r: Reader,
+    piece: &mut [u8],
+    head: &mut [u8],
+    numbers: &mut [u64],
+    bars: &mut [usize; 16],
+) -> Reader
     requires { ⌜ (r .count ≤ length (now piece)) × (0 < length (now piece)) × Within (r .line) (now head) (now numbers) ⌝ }
     ensures { λ s. ⌜ (s .count ≤ length (now (piece .entry))) × Within (s .line) (now (head .entry)) (now (numbers .entry)) ⌝ }
 {
@@ -114,9 +120,9 @@ fn answer_input() {
     let mut piece = io::large_buffer();
     let mut head = [0u8; 96];
     let mut numbers = cases::numbers();
-    let mut words = [0u32; 131072];
-    let mut inputs = [0u64; 131072];
-    let mut room = [0u64; 131072];
+    let mut words = cases::words();
+    let mut inputs = cases::one_part();
+    let mut room = cases::one_part();
     read_all(
         &mut piece,
         &mut head,

@@ -75,17 +75,33 @@ pub struct Limits {
     pub depth: u64,
 }
 
-fn run_in(image: &[u32], numbers: &mut [u64], bars: &[usize; 16], inputs: &mut [u64], room: &mut [u64]) {
-    let l = Limits {
+fn limits_of(numbers: &[u64], bars: &[usize; 16]) -> Limits {
+    Limits {
         steps: parts::single(numbers, bars, 4),
         depth: parts::single(numbers, bars, 5),
-    };
-    let n = parts::copy(numbers, bars, 2, inputs);
-    let lent = parts::room(numbers, bars, room);
-    run_on(image, numbers, bars, &inputs[0..n], &mut room[0..lent], l);
+    }
 }
 
-fn run_on(image: &[u32], numbers: &mut [u64], bars: &[usize; 16], inputs: &[u64], room: &mut [u64], l: Limits) {
+fn run_in(
+    image: &[u32],
+    numbers: &mut [u64],
+    bars: &[usize; 16],
+    inputs: &mut [u64],
+    room: &mut [u64],
+) {
+    let n = parts::copy(numbers, bars, 2, inputs);
+    let lent = parts::room(numbers, bars, room);
+    run_on(image, numbers, bars, &inputs[0..n], &mut room[0..lent]);
+}
+
+fn run_on(
+    image: &[u32],
+    numbers: &mut [u64],
+    bars: &[usize; 16],
+    inputs: &[u64],
+    room: &mut [u64],
+) {
+    let l = limits_of(numbers, bars);
     let heap = cases::part(bars, 1, numbers.len());
     let from = heap.from;
     let to = heap.to;

@@ -19,12 +19,24 @@ pub const MANY_PARTS: u64 = 7;
 // A part has at most so many numbers.
 pub const MOST_WORDS: usize = 131072;
 
-// Memory for the numbers of a line: a full image, as many words behind it, and a few numbers more. The contract
-// spares the prover to count the zeros.
+// Memory for the numbers of a line, a full image, as many words behind it, and a few numbers more; for the words of
+// an image; and for one part. The contracts spare the prover to count the zeros.
 pub fn numbers() -> [u64; 262160]
     ensures { λ r. ⌜ 262160 ≡ length r ⌝ }
 {
     [0; 262160]
+}
+
+pub fn words() -> [u32; 131072]
+    ensures { λ r. ⌜ 131072 ≡ length r ⌝ }
+{
+    [0; 131072]
+}
+
+pub fn one_part() -> [u64; 131072]
+    ensures { λ r. ⌜ 131072 ≡ length r ⌝ }
+{
+    [0; 131072]
 }
 
 // A line so far. The line's end counts as a bar, so that part k has the numbers from bar k to bar k + 1.

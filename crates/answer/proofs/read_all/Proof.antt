@@ -8,7 +8,7 @@ use Rattle.answer.proofs.read_all.Statement.{statement}
 use Rattle.answer.proofs.read_all.Tie as tie
 
 abbrev Inv-loop : tie.InvT-loop
-Inv-loop piece₀ head₀ numbers₀ words₀ inputs₀ room₀ bars₀ r₀ turns₀ piece head numbers words inputs room bars r turns = 
+Inv-loop piece₀ head₀ numbers₀ words₀ inputs₀ room₀ bars₀ r₀ turns₀ piece head numbers words inputs room bars r turns =
     (0 < length piece₀) × (length piece ≡ length piece₀) × (length head ≡ length head₀) × (length numbers ≡ length numbers₀) × (length words ≡ length words₀) × (length inputs ≡ length inputs₀) × (length room ≡ length room₀) × (r .count ≤ length piece₀) × Within (r .line) head₀ numbers₀
 
 abbrev μ-loop : tie.MeasureT-loop
