@@ -14,7 +14,7 @@ pub fn question(l: Line, image: Words, head: &[u8], numbers: &[u64], bars: &[usi
     requires { ⌜ (l .head ≤ length (now head)) × (l .bars ≤ 16) ⌝ }
 {
     let n = l.head;
-    if (n == 0) & (l.bars < 2) {
+    if (n == 0) & (l.bars < 2) & (l.fault == 0) {
         return 0;
     }
     let h = split(head, n);
