@@ -22,18 +22,18 @@ use cases::Line;
 use libc::STDIN_FILENO;
 
 // Where the reading stands: the line so far, how many bytes of the piece are read and how many there
-// are, and whether there may be more input.
+// are, and how many turns are left: 0 once the input has ended.
 struct Reader {
     line: Line,
     at: usize,
     count: usize,
-    is_open: bool,
+    left: u64,
 }
 
 // Reads a piece where there is none. The input's end counts as that of a line.
 fn fill(r: Reader, piece: &mut [u8]) -> Reader
-    requires { ⌜ (r .count ≤ length (now piece)) × (0 < length (now piece)) ⌝ }
-    ensures { λ s. ⌜ (s .count ≤ length (now (piece .entry))) × (s .line .head ≡ r .line .head) × (s .line .numbers ≡ r .line .numbers) × (s .line .bars ≡ r .line .bars) ⌝ }
+    requires { ⌜ (r .count ≤ length (now piece)) × (0 < length (now piece)) × (0 < r .left) ⌝ }
+    ensures { λ s. ⌜ (s .count ≤ length (now (piece .entry))) × (0 < s .left) × (s .left ≤ r .left) × (s .line .head ≡ r .line .head) × (s .line .numbers ≡ r .line .numbers) × (s .line .bars ≡ r .line .bars) ⌝ }
 {
     if r.at < r.count {
         return r;
@@ -45,7 +45,7 @@ fn fill(r: Reader, piece: &mut [u8]) -> Reader
     if got > 0 {
         return s;
     }
-    s.is_open = false;
+    s.left = 1;
     if got < 0 {
         let line = r.line;
         print::wrong(line.number, faults::at_head(faults::NO_INPUT));
@@ -64,8 +64,8 @@ fn take(
     numbers: &mut [u64],
     bars: &mut [usize; 16],
 ) -> Reader
-    requires { ⌜ (r .count ≤ length (now piece)) × (0 < length (now piece)) × Within (r .line) (now head) (now numbers) ⌝ }
-    ensures { λ s. ⌜ (s .count ≤ length (now (piece .entry))) × Within (s .line) (now (head .entry)) (now (numbers .entry)) ⌝ }
+    requires { ⌜ (r .count ≤ length (now piece)) × (0 < length (now piece)) × (0 < r .left) × Within (r .line) (now head) (now numbers) ⌝ }
+    ensures { λ s. ⌜ (s .count ≤ length (now (piece .entry))) × (s .left < r .left) × Within (s .line) (now (head .entry)) (now (numbers .entry)) ⌝ }
 {
     let filled = fill(r, piece);
     let line = filled.line;
@@ -76,7 +76,7 @@ fn take(
         line: next,
         at: reached.at,
         count: n,
-        is_open: filled.is_open,
+        left: filled.left - 1,
     }
 }
 
@@ -97,14 +97,12 @@ fn read_all(
         line: cases::begun(1),
         at: 0,
         count: 0,
-        is_open: true,
+        left: u64::MAX,
     };
-    let mut turns = u64::MAX;
-    while turns > 0 && r.is_open {
+    while r.left > 0 {
         r = take(r, piece, head, numbers, &mut bars);
         let line = r.line;
         questions::answer(line, head, numbers, &bars, words, inputs, room);
-        turns -= 1;
     }
 }
 
