@@ -7,8 +7,8 @@ Reads cases on standard input, one a line:
     conform NAME | the image's words | the heap's words | the inputs
     run NAME | the image's words | the heap's words | the inputs | words of room | step limit | depth limit
 
-and prints `NAME number place` for each, or `line N: what is wrong` for a line
-that is no such case. A run that is not refused prints its end, `NAME number
+and prints `NAME number place` for each, or `line N: fault F PART WORD` for a
+line that is no such case. A run that is not refused prints its end, `NAME number
 place count value | the heap's words after it`, with `-` where the end has no
 value. An empty line is passed over.
 
@@ -17,7 +17,6 @@ plainly as it can. It is slow on purpose: each number is one function that
 lists every breach of it, and the answer is the lowest of them. The run goes
 down from the root to the active place before every step.
 """
-import re
 import sys
 import threading
 
@@ -28,8 +27,11 @@ MOST_INPUTS = 8
 LAST_NAME = 65535
 LAST_VARIABLE = 63
 MOST_WORDS = 131072
+MOST_NUMBERS = 262160
+MOST_PARTS = 15
 MOST_SLOTS = 4096
 LONGEST_NAME = 64
+LONGEST_HEAD = 96
 
 # The kinds of node.
 NEW, CAST, VALUE, VAR, ADD, EQ, ASSIGN, GET, SET, CALL, BLOCK, SEQ, IF, WHILE, THROW, TRY = range(16)
@@ -860,7 +862,10 @@ def run(words, heap, inputs, room, limit, depth):
 
 
 class BadLine(Exception):
-    pass
+    """A line that is no case: the fault's number, the part, counted from 1, and the word in it, from 0."""
+
+    def __init__(self, fault, part, word):
+        super().__init__("fault %d %d %d" % (fault, part, word))
 
 
 def split(text):
@@ -878,94 +883,77 @@ def word_of(text, bits):
     return int(digits) if int(digits) < 2 ** bits else None
 
 
-def words_of(text, subject, bits, room, full):
-    """The words of one part of a line."""
-    words = []
-    for part in split(text):
-        word = word_of(part, bits)
-        if word is None:
-            raise BadLine("%s %d is no decimal number of %d bits" % (subject, len(words), bits))
-        if len(words) == room:
-            raise BadLine(full)
-        words.append(word)
-    return words
+def parts_of(line):
+    """The numbers of each part. Without a bar there is no part."""
+    parts = []
+    left = MOST_NUMBERS
+    for text in line.split(b"|")[1:]:
+        words = []
+        for token in split(text):
+            word = word_of(token, 64)
+            if word is None:
+                raise BadLine(5, len(parts) + 1, len(words))
+            if len(words) == MOST_WORDS or left == 0:
+                raise BadLine(6, len(parts) + 1, len(words))
+            words.append(word)
+            left -= 1
+        if len(parts) == MOST_PARTS:
+            raise BadLine(7, len(parts) + 1, len(words))
+        parts.append(words)
+    return parts
 
 
-def read_head(line):
-    """The question and the name of a case, and what follows the bar."""
-    head, bar, tail = line.partition(b"|")
-    parts = split(head)
-    if parts[:1] not in ([b"check"], [b"conform"], [b"run"]):
-        raise BadLine("the question is not known (known: check, conform, run)")
-    if len(parts) < 2:
-        raise BadLine("there is no name")
-    if len(parts[1]) > LONGEST_NAME:
-        raise BadLine("the name is longer than 64 bytes")
-    if len(parts) > 2 or not bar:
-        raise BadLine("there is no bar after the name")
-    return parts[0], parts[1], tail
-
-
-def image_of(text):
-    return words_of(text, "word", 32, MOST_WORDS, "there are more than 131072 words")
+def read_line(line):
+    """The question, the name and the parts of a case."""
+    try:
+        parts, wrong = parts_of(line), None
+        place = len(parts) + 1, 0
+    except BadLine as fault:
+        parts, wrong = [], fault
+        place = tuple(int(n) for n in str(fault).split()[2:])
+    text = line.partition(b"|")[0]
+    head = split(text)
+    if len(b" ".join(head)) + text.endswith((b" ", b"\t", b"\r")) > LONGEST_HEAD:
+        place = 0, 0  # nothing behind so long a head is read
+    if head[:1] not in ([b"check"], [b"conform"], [b"run"]):
+        raise BadLine(1, *place)
+    if len(head) < 2:
+        raise BadLine(2, *place)
+    if len(head[1]) > LONGEST_NAME:
+        raise BadLine(3, *place)
+    if len(head) > 2 or b"|" not in line:
+        raise BadLine(4, *place)
+    if wrong:
+        raise wrong
+    question, name = head
+    if len(parts) != {b"check": 1, b"conform": 3, b"run": 6}[question]:
+        raise BadLine(7, *place)
+    for k, word in enumerate(parts[0]):
+        if word >= 2 ** 32:
+            raise BadLine(8, 1, k)
+    for k in range(3, len(parts)):
+        if len(parts[k]) != 1:
+            raise BadLine(9, k + 1, 0)
+    if question == b"run" and parts[3][0] > MOST_WORDS:
+        raise BadLine(10, 0, 0)
+    return question, name, parts
 
 
 def read_case(line):
     """The name and the image of a case."""
-    question, name, tail = read_head(line)
-    return name, image_of(tail if question == b"check" else split_parts(tail, 3)[0])
-
-
-def split_parts(tail, most):
-    """What stands before, between and after the bars, the last part with all that follows. A bar stands after a blank or a bar."""
-    return re.split(rb"(?:^|(?<=[ \t\r|]))\|", tail, maxsplit=most - 1)
-
-
-def read_setting(parts):
-    """Image, heap and inputs: the first three parts."""
-    image, heap, last = (parts + [b"", b""])[:3]
-    full = "there are more than 131072 words of heap and inputs"
-    words = image_of(image)
-    held = words_of(heap, "heap word", 64, MOST_WORDS, full)
-    inputs = words_of(last, "input", 64, MOST_WORDS - len(held), full)
-    return words, held, inputs
-
-
-def read_conform(tail):
-    parts = split_parts(tail, 3)
-    setting = read_setting(parts)
-    if len(parts) < 3:
-        raise BadLine("image, heap and inputs are asked for, with a bar before each")
-    return setting
-
-
-def read_run(tail):
-    """Image, heap and inputs, the length of the room, and the two limits."""
-    parts = split_parts(tail, 6)
-    setting = read_setting(parts)
-    numbers = []
-    for i, subject in ((3, "room"), (4, "step limit"), (5, "depth limit")):
-        if len(parts) <= i:
-            raise BadLine("image, heap, inputs, room, step limit and depth limit are asked for, with a bar before each")
-        words = split(parts[i])
-        number = word_of(words[0], 64) if len(words) == 1 else None
-        if number is None:
-            raise BadLine("the %s is no decimal number of 64 bits" % subject)
-        numbers.append(number)
-    if numbers[0] > MOST_WORDS:
-        raise BadLine("there are more than 131072 words of room")
-    return setting + tuple(numbers)
+    question, name, parts = read_line(line)
+    return name, parts[0]
 
 
 def answer(line):
     """The line that answers a case."""
-    question, name, tail = read_head(line)
+    question, name, parts = read_line(line)
     if question == b"check":
-        found = check(image_of(tail))
+        found = check(*parts)
     elif question == b"conform":
-        found = conform(*read_conform(tail))
+        found = conform(*parts)
     else:
-        found = run(*read_run(tail))
+        found = run(*parts[:3], *(part[0] for part in parts[3:]))
     text = b"%s %d %d" % ((name,) + found[:2])
     if len(found) > 2:
         count, word, heap = found[2:]

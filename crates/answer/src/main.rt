@@ -4,198 +4,129 @@
 //     run NAME | IMAGE WORD .. | HEAP WORD .. | INPUT .. | ROOM | STEPS | DEPTH
 // with one line each on standard output: the name, the number and the place. The end of a run has the
 // steps taken, the value and, behind a bar, the heap's words too. A line that is no case is answered
-// by what is wrong with it, and the next one is read as ever.
-mod line;
-mod report;
-mod runs;
+// by `line N: fault F PART WORD`, and the next one is read as ever; the script `muthaveri` has the words
+// for each fault.
+// With arguments it answers one question about files instead (`arguments`).
+mod arguments;
+mod faults;
+mod heads;
+mod parts;
+mod print;
+mod questions;
 
-ghost use Rattle.answer.specs.Kept.{Within};
+ghost use mathlib.Core.Path.{_≡_};
+ghost use Prim.Native.Nat.{_≤_, _<_};
+ghost use lib.ListN.{length};
+ghost use Rattle.cases.specs.Kept.{Within};
+use cases::Line;
 use libc::STDIN_FILENO;
-use line::Filled;
-use line::Line;
-use line::Part;
-use line::State;
-use report::Fault;
 
-// Where the reading stands: the line so far, its number, and whether there may be more input.
+// Where the reading stands: the line so far, how many bytes of the piece are read and how many there
+// are, and how many turns are left: 0 once the input has ended.
 struct Reader {
     line: Line,
-    number: u64,
-    is_open: bool,
+    at: usize,
+    count: usize,
+    left: u64,
 }
 
-// The end of a line counts as a blank first, which ends the name or the word before it.
-fn end_line(
+// Reads a piece where there is none. The input's end counts as that of a line.
+fn fill(r: Reader, piece: &mut [u8]) -> Reader
+    requires { ⌜ (r .count ≤ length (now piece)) × (0 < length (now piece)) × (0 < r .left) ⌝ }
+    ensures { λ s. ⌜ (s .count ≤ length (now (piece .entry))) × (0 < s .left) × (s .left ≤ r .left) × (s .line .head ≡ r .line .head) × (s .line .numbers ≡ r .line .numbers) × (s .line .bars ≡ r .line .bars) ⌝ }
+{
+    if r.at < r.count {
+        return r;
+    }
+    let got = libc::read(STDIN_FILENO, piece);
+    let mut s = r;
+    s.at = 0;
+    s.count = io::count(got, piece);
+    if got > 0 {
+        return s;
+    }
+    s.left = 1;
+    if got < 0 {
+        let line = r.line;
+        print::wrong(line.number, faults::at_head(faults::NO_INPUT));
+        return s;
+    }
+    piece[0] = b'\n';
+    s.count = 1;
+    s
+}
+
+// Reads on, to the end of the line or of the piece.
+fn take(
     r: Reader,
-    name: &mut [u8],
-    words: &mut [u32],
-    rest: &mut [u64],
-    inputs: &mut [u64],
-    room: &mut [u64],
-)
-    requires { ⌜ Within (r .line .filled) (now name) (now words) (now rest) ⌝ }
-{
-    let line = r.line;
-    let last = line::step(line, b' ', name, words, rest);
-    let f = last.filled;
-    let state = last.state;
-    match state {
-        State::Words(p) => answer(r.number, p, f, name, words, rest),
-        State::Given(l) => runs::answer(r.number, l, f, name, words, rest, inputs, room),
-        State::Gap(_) => report::wrong(r.number, Fault::NoName),
-        State::Bar(_) => report::wrong(r.number, Fault::NoBar),
-        State::Wrong(w) => report::wrong(r.number, w),
-        _ => {}
-    }
-}
-
-// What is asked of the words shows in the part that they end in.
-fn answer(number: u64, p: Part, f: Filled, name: &[u8], words: &[u32], rest: &[u64])
-    requires { ⌜ Within f (now name) (now words) (now rest) ⌝ }
-{
-    let k = f.words;
-    match p {
-        Part::Only => report::answer(name, f.name, image_check::check_answer(&words[..k])),
-        Part::Inputs(is_run) => fit(number, is_run, f, name, words, rest),
-        Part::Image(is_run) => few(number, is_run),
-        Part::Heap(is_run) => few(number, is_run),
-        Part::Number(l) => report::wrong(number, Fault::NoLimit(l)),
-    }
-}
-
-fn few(number: u64, is_run: bool) {
-    if is_run {
-        report::wrong(number, Fault::FewRunParts);
-        return;
-    }
-    report::wrong(number, Fault::FewParts);
-}
-
-// Inputs end a case of conformity, and are not all of a run's.
-fn fit(number: u64, is_run: bool, f: Filled, name: &[u8], words: &[u32], rest: &[u64])
-    requires { ⌜ Within f (now name) (now words) (now rest) ⌝ }
-{
-    if is_run {
-        few(number, true);
-        return;
-    }
-    let k = f.words;
-    let h = f.heap;
-    let r = f.rest;
-    let a = conform::conformity(&words[..k], &rest[..h], &rest[h..r]);
-    report::answer(name, f.name, a);
-}
-
-fn turn(
-    s: Reader,
-    b: u8,
-    name: &mut [u8],
-    words: &mut [u32],
-    rest: &mut [u64],
-    inputs: &mut [u64],
-    room: &mut [u64],
+    piece: &mut [u8],
+    head: &mut [u8],
+    numbers: &mut [u64],
+    bars: &mut [usize; 16],
 ) -> Reader
-    requires { ⌜ Within (s .line .filled) (now name) (now words) (now rest) ⌝ }
-    ensures { λ r. ⌜ Within (r .line .filled) (now (name .entry)) (now (words .entry)) (now (rest .entry)) ⌝ }
+    requires { ⌜ (r .count ≤ length (now piece)) × (0 < length (now piece)) × (0 < r .left) × Within (r .line) (now head) (now numbers) ⌝ }
+    ensures { λ s. ⌜ (s .count ≤ length (now (piece .entry))) × (s .left < r .left) × Within (s .line) (now (head .entry)) (now (numbers .entry)) ⌝ }
 {
-    if b == b'\n' {
-        end_line(s, name, words, rest, inputs, room);
-        return Reader {
-            line: line::empty(),
-            number: std::num::wrapping_add_u64(s.number, 1),
-            is_open: true,
-        };
-    }
-    let line = s.line;
-    let next = line::step(line, b, name, words, rest);
+    let filled = fill(r, piece);
+    let line = filled.line;
+    let n = filled.count;
+    let reached = cases::read(line, &piece[0..n], filled.at, head, numbers, bars);
+    let next = reached.line;
     Reader {
         line: next,
-        number: s.number,
-        is_open: true,
+        at: reached.at,
+        count: n,
+        left: filled.left - 1,
     }
-}
-
-fn work(
-    start: Reader,
-    piece: &[u8],
-    name: &mut [u8],
-    words: &mut [u32],
-    rest: &mut [u64],
-    inputs: &mut [u64],
-    room: &mut [u64],
-) -> Reader
-    requires { ⌜ Within (start .line .filled) (now name) (now words) (now rest) ⌝ }
-    ensures { λ r. ⌜ Within (r .line .filled) (now (name .entry)) (now (words .entry)) (now (rest .entry)) ⌝ }
-{
-    let mut r = start;
-    let mut i = 0;
-    while i < piece.len() {
-        r = turn(r, piece[i], name, words, rest, inputs, room);
-        i += 1;
-    }
-    r
-}
-
-// Reads once, and works on what came.
-fn read_some(
-    s: Reader,
-    name: &mut [u8],
-    words: &mut [u32],
-    rest: &mut [u64],
-    inputs: &mut [u64],
-    room: &mut [u64],
-) -> Reader
-    requires { ⌜ Within (s .line .filled) (now name) (now words) (now rest) ⌝ }
-    ensures { λ r. ⌜ Within (r .line .filled) (now (name .entry)) (now (words .entry)) (now (rest .entry)) ⌝ }
-{
-    let mut piece = io::large_buffer();
-    let got = libc::read(STDIN_FILENO, &mut piece);
-    if got < 0 {
-        return Reader {
-            line: line::unread(),
-            number: s.number,
-            is_open: false,
-        };
-    }
-    if got == 0 {
-        let line = s.line;
-        return Reader {
-            line,
-            number: s.number,
-            is_open: false,
-        };
-    }
-    let n = io::count(got, &piece);
-    work(s, &piece[..n], name, words, rest, inputs, room)
 }
 
 // A proved loop has to end, and nothing says that the input does: the turns count down from a number
-// that no run uses up. The last line may lack its end.
+// that no run uses up.
 fn read_all(
-    name: &mut [u8],
+    piece: &mut [u8],
+    head: &mut [u8],
+    numbers: &mut [u64],
     words: &mut [u32],
-    rest: &mut [u64],
     inputs: &mut [u64],
     room: &mut [u64],
-) {
+)
+    requires { ⌜ 0 < length (now piece) ⌝ }
+{
+    let mut bars = [0usize; 16];
     let mut r = Reader {
-        line: line::empty(),
-        number: 1,
-        is_open: true,
+        line: cases::begun(1),
+        at: 0,
+        count: 0,
+        left: u64::MAX,
     };
-    let mut turns = u64::MAX;
-    while turns > 0 && r.is_open {
-        r = read_some(r, name, words, rest, inputs, room);
-        turns -= 1;
+    while r.left > 0 {
+        r = take(r, piece, head, numbers, &mut bars);
+        let line = r.line;
+        questions::answer(line, head, numbers, &bars, words, inputs, room);
     }
-    end_line(r, name, words, rest, inputs, room);
 }
 
 fn main() {
-    let mut name = [0u8; 64];
-    let mut words = [0u32; 131072];
-    let mut rest = [0u64; 131072];
-    let mut inputs = [0u64; 131072];
-    let mut room = [0u64; 131072];
-    read_all(&mut name, &mut words, &mut rest, &mut inputs, &mut room);
+    if os::arg_count() > 1 {
+        arguments::answer();
+        return;
+    }
+    answer_input();
+}
+
+fn answer_input() {
+    let mut piece = io::large_buffer();
+    let mut head = [0u8; 96];
+    let mut numbers = cases::numbers();
+    let mut words = cases::words();
+    let mut inputs = cases::one_part();
+    let mut room = cases::one_part();
+    read_all(
+        &mut piece,
+        &mut head,
+        &mut numbers,
+        &mut words,
+        &mut inputs,
+        &mut room,
+    );
 }

@@ -1,38 +1,36 @@
--- `answer::read_all` is safe and ends. The measure is the number of turns that are left. Assumes nothing.
-use Rattle.answer.proofs.read_all.Statement.{statement}
-use Rattle.answer.specs.Kept.{Within}
-use borrow.Author.Needs.{needs}
+-- `answer::read_all` keeps the line within the lent memory. The measure is the count of turns that are left. Assumes nothing.
+use Prim.Native.Nat.{_≤_, _<_}
 use lib.ListN.{length}
 use mathlib.Core.Path.{_≡_}
+use Rattle.cases.specs.Kept.{Within}
+use borrow.Author.Needs.{needs}
+use Rattle.answer.proofs.read_all.Statement.{statement}
 use Rattle.answer.proofs.read_all.Tie as tie
 
 abbrev Inv-loop : tie.InvT-loop
-Inv-loop name₀ words₀ rest₀ inputs₀ room₀ r₀ turns₀ name words rest inputs room r turns =
-    (length name ≡ length name₀) × (length words ≡ length words₀) × (length rest ≡ length rest₀) × (length inputs ≡ length inputs₀) × (length room ≡ length room₀) × Within (r .line .filled) name₀ words₀ rest₀
+Inv-loop piece₀ head₀ numbers₀ words₀ inputs₀ room₀ bars₀ r₀ piece head numbers words inputs room bars r =
+    (0 < length piece₀) × (length piece ≡ length piece₀) × (length head ≡ length head₀) × (length numbers ≡ length numbers₀) × (length words ≡ length words₀) × (length inputs ≡ length inputs₀) × (length room ≡ length room₀) × (r .count ≤ length piece₀) × Within (r .line) head₀ numbers₀
 
 abbrev μ-loop : tie.MeasureT-loop
-μ-loop name₀ words₀ rest₀ inputs₀ room₀ r₀ turns₀ name words rest inputs room r turns = turns
+μ-loop piece₀ head₀ numbers₀ words₀ inputs₀ room₀ bars₀ r₀ piece head numbers words inputs room bars r = r .left
 
-empty-requires : tie.Need-empty-requires Inv-loop μ-loop
-empty-requires c κs = search needs
+begun-requires : tie.Need-begun-requires Inv-loop μ-loop
+begun-requires c κs = search needs
 
 loop-holds : tie.Need-loop-holds Inv-loop μ-loop
 loop-holds c = search needs
 
-read-some-requires : tie.Need-read-some-requires Inv-loop μ-loop
-read-some-requires c κs = search needs
+take-requires : tie.Need-take-requires Inv-loop μ-loop
+take-requires c κs = search needs
 
-sub-turns : tie.Need-sub-turns Inv-loop μ-loop
-sub-turns c = search needs
+answer-requires : tie.Need-answer-requires Inv-loop μ-loop
+answer-requires c κs = search needs
 
 loop-less : tie.Need-loop-less Inv-loop μ-loop
 loop-less c = search needs
 
 loop-again : tie.Need-loop-again Inv-loop μ-loop
 loop-again c = search needs
-
-end-line-requires : tie.Need-end-line-requires Inv-loop μ-loop
-end-line-requires c κs = search needs
 
 same-length : tie.Need-same-length Inv-loop μ-loop
 same-length c = search needs
@@ -49,6 +47,9 @@ same-length-4 c = search needs
 same-length-5 : tie.Need-same-length-5 Inv-loop μ-loop
 same-length-5 c = search needs
 
+same-length-6 : tie.Need-same-length-6 Inv-loop μ-loop
+same-length-6 c = search needs
+
 returns : tie.Need-returns Inv-loop μ-loop
 returns c = search needs
 
@@ -58,16 +59,16 @@ read-all-spec =
     (tie.spec
     Inv-loop
     μ-loop
-    empty-requires
+    begun-requires
     loop-holds
-    read-some-requires
-    sub-turns
+    take-requires
+    answer-requires
     loop-less
     loop-again
-    end-line-requires
     same-length
     same-length-2
     same-length-3
     same-length-4
     same-length-5
+    same-length-6
     returns)

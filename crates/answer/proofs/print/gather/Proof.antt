@@ -1,0 +1,56 @@
+-- `answer::print::gather` stays within `out`. The measure is what is left of the words. Assumes nothing.
+use Prim.Native.Nat.{_-_, _≤_, _<_}
+use lib.ListN.{length}
+use mathlib.Core.Path.{_≡_}
+use borrow.Author.Needs.{needs}
+use Rattle.answer.proofs.print.gather.Statement.{statement}
+use Rattle.answer.proofs.print.gather.Tie as tie
+
+abbrev Inv-loop : tie.InvT-loop
+Inv-loop ws out₀ n₀ i₀ out n i = (i ≤ length ws) × (21 ≤ length out₀) × (length out ≡ length out₀) × (n ≤ length out₀)
+
+abbrev μ-loop : tie.MeasureT-loop
+μ-loop ws out₀ n₀ i₀ out n i = length ws - i
+
+loop-holds : tie.Need-loop-holds Inv-loop μ-loop
+loop-holds c = search needs
+
+mul-put : tie.Need-mul-put Inv-loop μ-loop
+mul-put c = search needs
+
+shared-slice-read-put : tie.Need-shared-slice-read-put Inv-loop μ-loop
+shared-slice-read-put c = search needs
+
+put-requires : tie.Need-put-requires Inv-loop μ-loop
+put-requires c κs = search needs
+
+add-i : tie.Need-add-i Inv-loop μ-loop
+add-i c = search needs
+
+loop-less : tie.Need-loop-less Inv-loop μ-loop
+loop-less c = search needs
+
+loop-again : tie.Need-loop-again Inv-loop μ-loop
+loop-again c = search needs
+
+same-length : tie.Need-same-length Inv-loop μ-loop
+same-length c = search needs
+
+returns : tie.Need-returns Inv-loop μ-loop
+returns c = search needs
+
+pub gather-spec : {M : Type 1} → statement M
+gather-spec =
+    tie.close
+    (tie.spec
+    Inv-loop
+    μ-loop
+    loop-holds
+    mul-put
+    shared-slice-read-put
+    put-requires
+    add-i
+    loop-less
+    loop-again
+    same-length
+    returns)
