@@ -7,10 +7,10 @@
 ghost use mathlib.Core.Path.{_≡_};
 ghost use Prim.Native.Nat.{_≤_};
 ghost use lib.ListN.{length};
-use crate::faults;
-use crate::print;
 use crate::questions;
 use crate::questions::Limits;
+use lines::faults;
+use lines::print;
 use run::Told;
 
 // The number of the first end; a lower one is a refusal.
@@ -104,7 +104,7 @@ fn end(t: Told, heap: &[u64]) {
         return;
     }
     print::name(b"run");
-    print::ran(t, &[]);
+    print::ran(t.number, t.place, t.count, t.value, &[]);
 }
 
 // The contract spares the prover to count the zeros.

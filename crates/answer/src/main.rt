@@ -8,10 +8,6 @@
 // for each fault.
 // With arguments it answers one question about files instead (`arguments`).
 mod arguments;
-mod faults;
-mod heads;
-mod parts;
-mod print;
 mod questions;
 
 ghost use mathlib.Core.Path.{_≡_};
@@ -20,6 +16,8 @@ ghost use lib.ListN.{length};
 ghost use Rattle.cases.specs.Kept.{Within};
 use cases::Line;
 use libc::STDIN_FILENO;
+use lines::faults;
+use lines::print;
 
 // Where the reading stands: the line so far, how many bytes of the piece are read and how many there
 // are, and how many turns are left: 0 once the input has ended.

@@ -1,11 +1,11 @@
-// The questions. A new one is a line in `heads::look_up`, one in `ask`, and its function.
+// The questions. A new one is a line in `lines::heads::look_up`, one in `ask`, and its function.
 ghost use Prim.Native.Nat.{_≤_};
 ghost use lib.ListN.{length};
 ghost use Rattle.cases.specs.Kept.{Within};
-use crate::heads;
-use crate::parts;
-use crate::print;
 use cases::Line;
+use lines::heads;
+use lines::parts;
+use lines::print;
 use order::Answer;
 use run::Told;
 
@@ -106,5 +106,5 @@ fn run_on(
     let from = heap.from;
     let to = heap.to;
     let t = told(image, &mut numbers[from..to], inputs, room, l);
-    print::ran(t, &numbers[from..to]);
+    print::ran(t.number, t.place, t.count, t.value, &numbers[from..to]);
 }

@@ -1,10 +1,10 @@
--- `answer::print::gather` stays within `out`. The measure is what is left of the words. Assumes nothing.
+-- `lines::print::gather` stays within `out`. The measure is what is left of the words. Assumes nothing.
 use Prim.Native.Nat.{_-_, _≤_, _<_}
 use lib.ListN.{length}
 use mathlib.Core.Path.{_≡_}
 use borrow.Author.Needs.{needs}
-use Rattle.answer.proofs.print.gather.Statement.{statement}
-use Rattle.answer.proofs.print.gather.Tie as tie
+use Rattle.lines.proofs.print.gather.Statement.{statement}
+use Rattle.lines.proofs.print.gather.Tie as tie
 
 abbrev Inv-loop : tie.InvT-loop
 Inv-loop ws out₀ n₀ i₀ out n i = (i ≤ length ws) × (21 ≤ length out₀) × (length out ≡ length out₀) × (n ≤ length out₀)

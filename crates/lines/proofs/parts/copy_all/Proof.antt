@@ -1,10 +1,10 @@
--- `answer::parts::narrow` stays within `out`. The measure is what is left of the words. Assumes nothing.
+-- `lines::parts::copy_all` stays within `out`. The measure is what is left of the words. Assumes nothing.
 use Prim.Native.Nat.{_-_, _≤_, _<_}
 use lib.ListN.{length}
 use mathlib.Core.Path.{_≡_}
 use borrow.Author.Needs.{needs}
-use Rattle.answer.proofs.parts.narrow.Statement.{statement}
-use Rattle.answer.proofs.parts.narrow.Tie as tie
+use Rattle.lines.proofs.parts.copy_all.Statement.{statement}
+use Rattle.lines.proofs.parts.copy_all.Tie as tie
 
 abbrev Inv-loop : tie.InvT-loop
 Inv-loop ws out₀ n i₀ out i = (n ≤ length ws) × (n ≤ length out₀) × (i ≤ n) × (length out ≡ length out₀)
@@ -18,23 +18,14 @@ least-requires c κs = search needs
 loop-holds : tie.Need-loop-holds Inv-loop μ-loop
 loop-holds c = search needs
 
-mul-w : tie.Need-mul-w Inv-loop μ-loop
-mul-w c = search needs
-
-shared-slice-read-w : tie.Need-shared-slice-read-w Inv-loop μ-loop
-shared-slice-read-w c = search needs
-
-same-length : tie.Need-same-length Inv-loop μ-loop
-same-length c = search needs
-
-returns : tie.Need-returns Inv-loop μ-loop
-returns c = search needs
-
-cast-out : tie.Need-cast-out Inv-loop μ-loop
-cast-out c = search needs
-
 mul-out : tie.Need-mul-out Inv-loop μ-loop
 mul-out c = search needs
+
+shared-slice-read-out : tie.Need-shared-slice-read-out Inv-loop μ-loop
+shared-slice-read-out c = search needs
+
+mul-out-2 : tie.Need-mul-out-2 Inv-loop μ-loop
+mul-out-2 c = search needs
 
 slice-write-out : tie.Need-slice-write-out Inv-loop μ-loop
 slice-write-out c = search needs
@@ -48,29 +39,26 @@ loop-less c = search needs
 loop-again : tie.Need-loop-again Inv-loop μ-loop
 loop-again c = search needs
 
-same-length-2 : tie.Need-same-length-2 Inv-loop μ-loop
-same-length-2 c = search needs
+same-length : tie.Need-same-length Inv-loop μ-loop
+same-length c = search needs
 
-returns-2 : tie.Need-returns-2 Inv-loop μ-loop
-returns-2 c = search needs
+returns : tie.Need-returns Inv-loop μ-loop
+returns c = search needs
 
-pub narrow-spec : {M : Type 1} → statement M
-narrow-spec =
+pub copy-all-spec : {M : Type 1} → statement M
+copy-all-spec =
     tie.close
     (tie.spec
     Inv-loop
     μ-loop
     least-requires
     loop-holds
-    mul-w
-    shared-slice-read-w
-    same-length
-    returns
-    cast-out
     mul-out
+    shared-slice-read-out
+    mul-out-2
     slice-write-out
     add-i
     loop-less
     loop-again
-    same-length-2
-    returns-2)
+    same-length
+    returns)

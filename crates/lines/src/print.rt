@@ -6,7 +6,6 @@ use crate::faults::Fault;
 use crate::parts;
 use libc::STDOUT_FILENO;
 use order::Answer;
-use run::Told;
 
 // The number of the first end of a run, and of the last that has a value.
 const FIRST_END: u64 = 30;
@@ -102,11 +101,11 @@ pub fn answer(a: Answer) {
 }
 
 // The answer to a run, and the heap after it.
-pub fn ran(t: Told, heap: &[u64]) {
-    words(&[t.number, t.place]);
-    if FIRST_END <= t.number {
-        words(&[t.count]);
-        value(t.number, t.value);
+pub fn ran(number: u64, place: u64, count: u64, word: u64, heap: &[u64]) {
+    words(&[number, place]);
+    if FIRST_END <= number {
+        words(&[count]);
+        value(number, word);
         words(heap);
     }
     text(b"\n");

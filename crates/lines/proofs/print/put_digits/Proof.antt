@@ -1,10 +1,10 @@
--- `answer::print::put_digits` stays within `out`. The measure is what is left of the digits. Assumes nothing.
+-- `lines::print::put_digits` stays within `out`. The measure is what is left of the digits. Assumes nothing.
 use Prim.Native.Nat.{_-_, _≤_, _<_}
 use lib.ListN.{length}
 use mathlib.Core.Path.{_≡_}
 use borrow.Author.Needs.{needs}
-use Rattle.answer.proofs.print.put_digits.Statement.{statement}
-use Rattle.answer.proofs.print.put_digits.Tie as tie
+use Rattle.lines.proofs.print.put_digits.Statement.{statement}
+use Rattle.lines.proofs.print.put_digits.Tie as tie
 
 abbrev Inv-loop : tie.InvT-loop
 Inv-loop digits k out₀ i₀ out i = (k ≤ 20) × (21 ≤ length out₀) × (length out ≡ length out₀)

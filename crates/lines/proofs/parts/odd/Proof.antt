@@ -1,10 +1,10 @@
--- `answer::parts::odd` ends. The measure is how many parts are left. Assumes nothing.
+-- `lines::parts::odd` ends. The measure is how many parts are left. Assumes nothing.
 use Prim.Native.Nat.{_-_, _≤_, _<_}
 use lib.ListN.{length}
 use mathlib.Core.Path.{_≡_}
 use borrow.Author.Needs.{needs}
-use Rattle.answer.proofs.parts.odd.Statement.{statement}
-use Rattle.answer.proofs.parts.odd.Tie as tie
+use Rattle.lines.proofs.parts.odd.Statement.{statement}
+use Rattle.lines.proofs.parts.odd.Tie as tie
 
 abbrev Inv-loop : tie.InvT-loop
 Inv-loop bars from to k₀ k = to < 18446744073709551616
