@@ -14,3 +14,4 @@ pub mod Numbers
 -- Theorems by computation.
 pub mod Computing
 pub mod Bench
+pub mod Inputs
