@@ -1,4 +1,4 @@
-// Number 21: whether the words of a room and of its record are a paused run's, and whether they start a run.
+// What the words of a room and of its record say of a call: whether it starts a run.
 ghost use mathlib.Core.Path.{_≡_};
 ghost use Prim.Native.Nat.{_+_, _≤_};
 ghost use lib.ListN.{length, getD};
