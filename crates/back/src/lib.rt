@@ -6,31 +6,22 @@ ghost use Rattle.rows.specs.Rows.{Sizes};
 ghost use Rattle.room.specs.declared.Focus.TheVariants.{Value};
 ghost use Rattle.room.specs.Room.{search_word, word, tag, Fit};
 ghost use Rattle.room.specs.Turn.{HeapOk, Inv, Turned};
-ghost use Rattle.comes.specs.Comes.{ChangesIf, Unheaped};
+ghost use Rattle.comes.specs.Comes.{Changes, Unheaped};
 
 use image::Layout;
 use room::{FRAME_WORDS, FRAMES, Focus, Go};
 
 // The frames for which the heap is not read: t and p are the tag and the place of frame i.
-fn back_plain(
-    ws: &[u32],
-    lay: Layout,
-    room: &mut [u64],
-    may: bool,
-    t: u64,
-    p: usize,
-    i: usize,
-    w: u64,
-) -> Go
+fn back_plain(ws: &[u32], lay: Layout, room: &mut [u64], t: u64, p: usize, i: usize, w: u64) -> Go
     requires { Good ws.now lay × Unheaped t × Fit ws.now room.old (suc i) × IsValue w × (tag ws.now room.old i ≡ t) × (word ws.now room.old i 1 ≡ p) }
-    ensures { ChangesIf may ws.now room.old t p i w room.new result }
+    ensures { Changes ws.now room.old t p i w room.new result }
 {
     match t {
-        6 => comes::back_assign(ws, lay, room, may, p, i, w),
-        10 => comes::back_block(room, may, i, w),
+        6 => comes::back_assign(ws, lay, room, p, i, w),
+        10 => comes::back_block(room, i, w),
         11 => Go::Stepped(Focus::Node(p - 1), i),
         12 => comes::back_if(ws, lay, p, i, w),
-        13 => comes::back_test(room, may, p, i, w),
+        13 => comes::back_test(room, p, i, w),
         14 => comes::back_throw(p, i, w),
         15 => Go::Stepped(Focus::Value(w), i),
         20 => comes::back_add(p, i, room[FRAMES + FRAME_WORDS * i + 2], w),
@@ -61,6 +52,6 @@ pub fn back(
         1 => comes::back_cast(ws, lay, heap, p, i, w),
         7 => comes::back_get(ws, lay, counts, heap, p, i, w),
         24 => comes::back_set(ws, lay, counts, heap, may, p, i, room[at + 2], w),
-        _ => back_plain(ws, lay, room, may, t, p, i, w),
+        _ => back_plain(ws, lay, room, t, p, i, w),
     }
 }

@@ -19,7 +19,7 @@ use Rattle.quick.specs.Known.{Tabled, Eval, IsPair, Gives}
 use Rattle.quick.specs.KnownLaws.{tabled, pair_steps, second_leaps}
 use Rattle.room.specs.declared.Focus.TheVariants.{Node, Value as Word, Thrown}
 use Rattle.room.specs.Room.{search_word, frame_at, first, second, shape_of, word, tag, IsNode}
-use Rattle.room.specs.RoomLaws.{fit_place, push_block}
+use Rattle.room.specs.RoomLaws.{push_block}
 use Rattle.room.specs.Turn.{HeapOk, Inv, Moves, Steps}
 use Rattle.room.specs.Back as back
 use Rattle.room.specs.Unwind.{pass_try, catch_steps}
@@ -145,7 +145,7 @@ module _ (ws : List ℕ) (D : ℕ) (hs room : List ℕ) (p i w : ℕ) where
         rw k.placed
         (step_thrown a _
         (back.redex_raises ws k.nodes D hs room i w k.inv _ _ _ (back.back_get ws k.nodes D hs room i w k.inv k.tagged) a e
-        s.known (fit_place k.inv.fit) k.heap))
+        s.known k.heap))
 
   -- a field is written
   module _ (k : Comes ws D hs room 24 p i w) (j : ℕ)
@@ -241,7 +241,7 @@ module _ (ws : List ℕ) (D : ℕ) (hs room : List ℕ) (i a q : ℕ) where
     unfolding operand
     catch_lands e =
         let z = rw k.placed at e in
-        let u = address_word a k.inv.here.0 in
+        let u = address_word a k.inv.here in
         rw k.placed
         (lands_node (leaps_step ws D (catch_steps ws k.nodes D hs room i a q k.inv k.heap k.tagged _ u.1 u.0 (z _ _ _ _)))
         (omega arith))

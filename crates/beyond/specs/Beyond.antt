@@ -15,8 +15,7 @@ use Rattle.room.specs.Room.{store_of, loaded, operand_of, frames}
 use Rattle.room.specs.Stack.{Beyond, assign_plain}
 use Rattle.room.specs.Turn.{finds, Inv}
 use Rattle.room.specs.Enter.{loaded_node}
-use Rattle.room.specs.Rest.{armed, armed_seq}
-use Rattle.room.specs.Armed.{armed_not, armed_seq_not}
+use Rattle.room.specs.Armed.{armed, armed_seq, armed_not, armed_seq_not}
 use Rattle.room.specs.Nodes.{not_literal, assign_local, kind_below, view_blocked, deep, deep_still}
 use Rattle.pushes.specs.Kinds.{still_kind, not_literal_kind}
 use Rattle.pushes.specs.EnterLaws.{seq_operand}

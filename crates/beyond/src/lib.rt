@@ -4,7 +4,7 @@ ghost use Rattle.image.specs.Nodes.{node_word, operands};
 ghost use Rattle.image.specs.Layout.{Good};
 ghost use Rattle.room.specs.declared.Focus.TheVariants.{Node};
 ghost use Rattle.room.specs.Room.{Fit};
-ghost use Rattle.room.specs.Rest.{armed};
+ghost use Rattle.room.specs.Armed.{armed};
 ghost use Rattle.pushes.specs.Turns.{Turns, Past};
 
 use image::Layout;

@@ -1,43 +1,40 @@
 -- Laws of a Call that has all its operands: what it enters, throws or is stuck at.
 use Rattle.std.specs.Prelude.{◌≡◌, refl, true, List, ◌∷◌, length, get_or}
 use Rattle.std.proofs.Math.Path.{sym}
-use Rattle.std.proofs.Common.{◌∙◌, lt-ltb, eq-eqb}
-use Prim.Native.Nat.{ℕ, zero, suc, ◌+◌, ◌*◌, ◌^◌, ◌≤◌, ◌<◌}
+use Rattle.std.proofs.Common.{◌∙◌, lt-ltb}
+use Prim.Native.Nat.{ℕ, suc, ◌+◌, ◌*◌, ◌^◌, ◌≤◌, ◌<◌}
 use native.Mathlib.Omega.{arith}
 use Rattle.std.proofs.Math.Numerals.{add-one}
 use Rattle.words.specs.declared.Value.{Value}
 use Rattle.words.specs.declared.Value.TheVariants.{Addr}
 use Rattle.words.specs.declared.Ty.{Ty}
 use Rattle.words.specs.declared.Ty.TheVariants.{Class}
-use Rattle.words.specs.Types.{type_of, type_word, is_declared}
+use Rattle.words.specs.Types.{type_of, type_word}
 use Rattle.words.specs.TypeLaws.{type_of_word}
 use Rattle.image.specs.declared.Layout.{Layout}
 use Rattle.image.specs.Numbers.{most_arguments}
-use Rattle.image.specs.Trailer.{class_count, node_count, method_count, type_count}
-use Rattle.image.specs.Records.{method_word, type_at, type_holds}
+use Rattle.image.specs.Trailer.{node_count, method_count, type_count}
+use Rattle.image.specs.Records.{method_word, type_at}
 use Rattle.image.specs.Nodes.{node_word, node_holds}
 use Rattle.image.specs.Layout.{Good}
 use Rattle.rules.specs.Maps.{tabulate}
-use Rattle.rules.specs.Trees.{Expr, tree}
-use Rattle.rules.specs.Program.{program, types_from, method_at}
-use Rattle.rules.specs.Heap.{Heap, heap_of}
-use Rattle.rules.specs.Step.{Store, Out, bare, blocked, redex}
+use Rattle.rules.specs.Trees.{tree}
+use Rattle.rules.specs.Program.{types_from, method_at}
+use Rattle.rules.specs.Step.{redex}
 use Rattle.laws.specs.Maps.{tabulate_same, length_tabulate}
 use Rattle.laws.specs.Values.{value_at, IsValue}
-use Rattle.laws.specs.Frames.{Frame, plugs, outers}
-use Rattle.classes.specs.Records.{Arguments, method_open, method_arguments}
+use Rattle.classes.specs.Records.{Arguments, method_arguments}
 use Rattle.laws.specs.Postorder.{body_holds_lem, method_filled}
 use Rattle.redexes.specs.declared.Target.{Target}
 use Rattle.laws.specs.Tags.{word_low}
 use Rattle.redexes.specs.Outcomes.{EntersAt, RaisesAt, Calls}
 use Rattle.room.specs.declared.Focus.TheVariants.{Node, Value as Word, Thrown}
-use Rattle.room.specs.Room.{search_word, most_operands, frame_at, store_of, shape_of, makes_block, loaded, word, tag, kept, frames, IsNode, Fit}
-use Rattle.room.specs.Rest.{resting, rests_in}
-use Rattle.room.specs.RoomLaws.{Kept, kept_refl, kept_set, kept_fit, fit_less, push_block}
-use Rattle.room.specs.Stack.{Halts, goes_back}
-use Rattle.room.specs.Turn.{HeapOk, focus_of, finds, Inv, Steps, Could, Sinks}
-use Rattle.room.specs.Nodes.{length_frames, call_count, class_declared}
-use Rattle.room.specs.Back.{Back, steps_less, back_halts, is_call}
+use Rattle.room.specs.Room.{search_word, most_operands, frame_at, store_of, loaded, word, tag, kept, Fit}
+use Rattle.room.specs.RoomLaws.{Kept, kept_refl, kept_set, kept_store, kept_frames, kept_fit, fit_less, push_block}
+use Rattle.room.specs.Stack.{Halts}
+use Rattle.room.specs.Turn.{HeapOk, focus_of, finds, Inv, Steps, Sinks}
+use Rattle.room.specs.Nodes.{call_count}
+use Rattle.room.specs.Back.{back_steps, back_halts, is_call}
 use Rattle.room.specs.Calls.{keeping, keeping_value, last_back, Pushing, pushing_start, pushing_on, Enters, call_steps, call_sinks}
 use Rattle.calls.specs.Blocks.{block_word, Callable, Pushed}
 
@@ -72,38 +69,30 @@ module _ {ws : List ℕ} {lay : Layout} {old : List ℕ} {i j y : ℕ} (g : Good
   pub arguments_in : Arguments (type_count ws) (method_word ws j 3) y
   arguments_in = rw k.arguments at (method_arguments ws j (g.methods j k.method))
 
-  -- a block's type may be declared
-  block_declared : (c : ℕ) → c ≤ y → is_declared (block_word ws j c) (class_count ws) ≡ true
-  unfolding block_word type_holds
-  block_declared zero l = class_declared (method_word ws j 0) (class_count ws) (method_open ws j (g.methods j k.method)).class
-  block_declared (suc c) l = g.types (method_word ws j 3 + c) (omega (arith, arguments_in.within))
-
-  -- one more block of the Call p
-  pushed_on : (p : ℕ) (room : List ℕ) (c : ℕ) → IsNode ws p 9 → Pushed ws old i p j y room c → c ≤ y
+  -- one more block
+  pushed_on : (p : ℕ) (room : List ℕ) (c : ℕ) → Pushed ws old i p j y room c → c ≤ y
       → Pushed ws old i p j y (push_block room (i + c) p c (block_word ws j c) (suc (word ws room i (5 + c)))) (suc c)
-  unfolding makes_block
-  pushed_on p room c n s l e =
+  pushed_on p room c s l e =
       let a = arguments_in.few in
       let b = s e in
       rw (b.values c (omega arith) (omega arith))
-      (pushing_on ws old i p (suc y) (block_word ws j) e room c b (omega arith) (omega arith) (k.values c l) (omega (arith, k.long, b.size))
-      (n.0, rw n.1, block_declared c l))
+      (pushing_on ws old i p (suc y) (block_word ws j) e room c b (omega arith) (omega arith) (k.values c l) (omega (arith, k.long, b.size)))
 
   -- the same as the code says it: the receiver's, and that of the argument behind c others
-  pub pushed_first : (p : ℕ) → IsNode ws p 9
+  pub pushed_first : (p : ℕ)
       → Pushed ws old i p j y (push_block old i p 0 (4 + method_word ws j 0) (word ws old i 5 + 1)) 1
   unfolding block_word
-  pushed_first p n e =
+  pushed_first p e =
       let z : i + 0 ≡ i = omega arith in
-      let s = rw z at (pushed_on p old 0 n (λ e. pushing_start ws old i p (suc y) (block_word ws j) e k.fit) (omega arith) e) in
+      let s = rw z at (pushed_on p old 0 (λ e. pushing_start ws old i p (suc y) (block_word ws j) e k.fit) (omega arith) e) in
       rw (add-one (word ws old i 5)) s
 
-  pub pushed_next : (p : ℕ) (room : List ℕ) (c : ℕ) → IsNode ws p 9 → Pushed ws old i p j y room (suc c) → c < y
+  pub pushed_next : (p : ℕ) (room : List ℕ) (c : ℕ) → Pushed ws old i p j y room (suc c) → c < y
       → Pushed ws old i p j y
       (push_block room (i + (c + 1)) p (c + 1) (type_at ws (method_word ws j 3 + c)) (word ws room i (5 + (c + 1)) + 1)) (suc (c + 1))
   unfolding block_word
-  pushed_next p room c n s l =
-      rw (add-one (word ws room i (5 + (c + 1))), add-one c) (pushed_on p room (suc c) n s l)
+  pushed_next p room c s l =
+      rw (add-one (word ws room i (5 + (c + 1))), add-one c) (pushed_on p room (suc c) s l)
 
   -- the room keeps its length, and the words of the operands to come are values' still
   pub pushed_size : {p : ℕ} {room : List ℕ} {c : ℕ} → Pushed ws old i p j y room c → length room ≡ length old
@@ -123,21 +112,6 @@ module _ (ws : List ℕ) (good : (n : ℕ) → n < node_count ws → node_holds 
   -- a Call has few arguments
   pub few : node_word ws (word ws room i 1) 3 ≤ most_arguments
   few = let n = (is_call ws good D hs room i w inv t).0 in call_count ws (word ws room i 1) (good (word ws room i 1) n.0) n.1
-
-  -- a step that the node's frame finds is one that could be taken
-  back_could : {F : Frame} {o : Out} → Back ws good D hs room i w inv F o → (q : ℕ) (h : Heap) (s : Store) (e : Expr) → o ≡ Out.next 0 q h s e
-      → Could ws D hs room (suc i) (Word w)
-  unfolding frames focus_of
-  back_could {F} b q h s e z =
-      record {
-        heap = h;
-        store = outers (frames ws room i) s;
-        expr = plugs blocked (frames ws room i) s e;
-        goes =
-            rw b.is
-            (goes_back (program ws) D (heap_of (program ws) hs) F (frames ws room i) (store_of room) (bare (value_at w)) e h s q b.plain
-            (rw length_frames (omega (arith, inv.level))) (b.found ∙ z));
-      }
 
   -- The room in which the value is kept has the frames below as they were.
   abbrev stored : List ℕ
@@ -160,11 +134,6 @@ module _ (ws : List ℕ) (good : (n : ℕ) → n < node_count ws → node_holds 
       (keeping_value ws good D hs room i w inv t c (omega arith))
 
   module _ (all : word ws room i 2 ≡ node_word ws (word ws room i 1) 3) where
-    -- all moves are made
-    pub call_rests : resting ws room (suc i) (Word w) ≡ true
-    unfolding resting rests_in shape_of
-    call_rests = rw t (eq-eqb (word ws room i 2) (node_word ws (word ws room i 1) 3) all)
-
     -- Method j is entered: the definition puts these blocks around its body.
     pub call_enters : (a j : ℕ)
         → EntersAt ws hs (node_word ws (word ws room i 1) 2) (word ws room i 2) (value_at (word ws stored i 5)) a j
@@ -212,13 +181,7 @@ module _ (ws : List ℕ) (good : (n : ℕ) → n < node_count ws → node_holds 
               → Pushing ws stored i (word ws room i 1) (suc m) (block_word ws j) (loaded ws (method_word ws j 5)) new (suc (word ws room i 2))
           as_many n m q b = rw (← q) b
 
-      -- it could be taken,
-      pub call_could : Could ws D hs room (suc i) (Word w)
-      unfolding Enters
-      call_could =
-          back_could (last_back ws good D hs room i w inv t all) (word ws room i 1) (heap_of (program ws) hs) (store_of room) _ (call_enters a j e)
-
-      -- or it leads too deep.
+      -- or the step leads too deep.
       pub call_sunk : D < i + word ws room i 2 → Sinks ws D hs room (suc i) (Word w)
       call_sunk d =
           call_sinks ws good D hs room i w inv t all (block_word ws j) (method_word ws j 5) (call_enters a j e) (omega (arith, all))
@@ -227,15 +190,23 @@ module _ (ws : List ℕ) (good : (n : ℕ) → n < node_count ws → node_holds 
     pub call_raises : (a : ℕ)
         → RaisesAt ws hs (node_word ws (word ws room i 1) 2) (word ws room i 2) (value_at (word ws stored i 5)) a
         → HeapOk ws hs (get_or room search_word 0)
-        → Steps ws D hs room (suc i) (Word w) hs room i (Thrown a (word ws room i 1))
+        → Steps ws D hs room (suc i) (Word w) hs stored i (Thrown a (word ws room i 1))
     unfolding redex focus_of
     call_raises a e h =
         let p = word ws room i 1 in
         let y = node_word ws p 3 in
         let k : ℕ → Value = λ c. value_at (kept ws stored i (suc c)) in
-        steps_less ws good D hs room i w inv (last_back ws good D hs room i w inv t all) p hs (Thrown a p)
-        (rw (kept_word_lem 0 (omega arith)) (e.out p (store_of room) (tabulate y k) (length_tabulate y k ∙ sym all)))
-        (e.small, (is_call ws good D hs room i w inv t).0.0) h
+        back_steps ws good D hs room i w inv (last_back ws good D hs room i w inv t all) p hs stored (Thrown a p)
+        (rw (kept_word_lem 0 (omega arith), kept_store stored_kept) (e.out p (store_of room) (tabulate y k) (length_tabulate y k ∙ sym all)))
+        (kept_frames ws stored_kept)
+        (record {
+          fit = stored_fit;
+          level = omega (arith, inv.level);
+          long = rw stored_kept.size inv.long;
+          here = e.small;
+        })
+        stored_kept.size
+        (rw (stored_kept.same search_word (omega arith)) h)
 
     -- or no rule fits.
     pub call_fails : Calls ws hs (node_word ws (word ws room i 1) 2) (word ws room i 2) (value_at (word ws stored i 5)) Target.Fails

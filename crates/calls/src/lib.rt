@@ -1,10 +1,9 @@
 // A value comes back to a Call: the next operand is gone into, or the Call has all its operands and does what its receiver says.
-ghost use Rattle.std.specs.Prelude.{◌≡◌, suc, ◌+◌, ◌≤◌, length, get_or, set};
-ghost use Rattle.image.specs.Numbers.{most_arguments};
+ghost use Rattle.std.specs.Prelude.{◌≡◌, Bool, suc, get_or};
 ghost use Rattle.image.specs.Nodes.{node_word};
 ghost use Rattle.image.specs.Layout.{Good};
 ghost use Rattle.room.specs.declared.Focus.TheVariants.{Value};
-ghost use Rattle.room.specs.Room.{search_word, frame_at, word, tag, IsNode};
+ghost use Rattle.room.specs.Room.{search_word, word, tag};
 ghost use Rattle.room.specs.Turn.{HeapOk, Inv, Turned};
 ghost use Rattle.calls.specs.Blocks.{Callable, Pushed};
 
@@ -23,7 +22,7 @@ pub fn push_blocks(
     j: usize,
     y: usize,
 )
-    requires { Good ws.now lay × Callable ws.now room.old i j y × IsNode ws.now p 9 }
+    requires { Good ws.now lay × Callable ws.now room.old i j y }
     ensures { Pushed ws.now room.old i p j y room.new (suc y) }
 {
     let at = FRAMES + FRAME_WORDS * i;
@@ -41,18 +40,6 @@ pub fn push_blocks(
     }
 }
 
-// The receiver's word, where w is the word of the last operand, behind y others.
-fn first_word(room: &[u64], i: usize, w: u64, y: usize) -> u64
-    requires { (frame_at (suc i) ≤ length room.now) × (y ≤ most_arguments) }
-    ensures { result ≡ get_or (set room.now (frame_at i + (5 + y)) w) (frame_at i + 5) 0 }
-{
-    if y == 0 {
-        w
-    } else {
-        room[FRAMES + FRAME_WORDS * i + OPERANDS]
-    }
-}
-
 // All y arguments of the Call at node p are values, the last of them w.
 fn call(
     ws: &[u32],
@@ -60,26 +47,23 @@ fn call(
     heap: &[u64],
     room: &mut [u64],
     depth: usize,
-    may: bool,
     i: usize,
     w: u64,
     p: usize,
     y: usize,
 ) -> Go
     requires { Good ws.now lay × Inv ws.now depth room.old (suc i) (Value w) × HeapOk ws.now heap.now (get_or room.old search_word 0) × (tag ws.now room.old i ≡ 9) × (p ≡ word ws.now room.old i 1) × (y ≡ word ws.now room.old i 2) × (word ws.now room.old i 2 ≡ node_word ws.now (word ws.now room.old i 1) 3) }
-    ensures { Turned ws.now depth may heap.now room.old (suc i) (Value w) heap.now room.new result }
+    ensures { (may : Bool) → Turned ws.now depth may heap.now room.old (suc i) (Value w) heap.now room.new result }
 {
-    let receiver = first_word(room, i, w, y);
+    let at = FRAMES + FRAME_WORDS * i;
+    room[at + (OPERANDS + y)] = w;
+    let receiver = room[at + OPERANDS];
     let name = image::node_word(ws, lay, p, 2) as usize;
     match redexes::call_target(ws, lay, heap, name, y, receiver) {
         Target::Enters(_, j) => {
             if depth < i + y {
                 return Go::Sunk;
             }
-            if !may {
-                return Go::Limit;
-            }
-            room[FRAMES + FRAME_WORDS * i + (OPERANDS + y)] = w;
             push_blocks(ws, lay, room, i, p, j, y);
             let m = image::method_word(ws, lay, j, 5) as usize;
             Go::Stepped(Focus::Node(m), i + y + 1)
@@ -96,19 +80,18 @@ pub fn back_call(
     heap: &[u64],
     room: &mut [u64],
     depth: usize,
-    may: bool,
     i: usize,
     w: u64,
 ) -> Go
     requires { Good ws.now lay × Inv ws.now depth room.old (suc i) (Value w) × HeapOk ws.now heap.now (get_or room.old search_word 0) × (tag ws.now room.old i ≡ 9) }
-    ensures { Turned ws.now depth may heap.now room.old (suc i) (Value w) heap.now room.new result }
+    ensures { (may : Bool) → Turned ws.now depth may heap.now room.old (suc i) (Value w) heap.now room.new result }
 {
     let at = FRAMES + FRAME_WORDS * i;
     let p = room[at + 1] as usize;
     let k = room[at + 2] as usize;
     let y = image::node_word(ws, lay, p, 3) as usize;
     if k == y {
-        return call(ws, lay, heap, room, depth, may, i, w, p, y);
+        return call(ws, lay, heap, room, depth, i, w, p, y);
     }
     room[at + (OPERANDS + k)] = w;
     room[at + 2] = (k + 1) as u64;

@@ -34,11 +34,6 @@ abbrev pub Changes : (ws room : List ℕ) (t p i w : ℕ) (room' : List ℕ) →
 Changes ws room t p i w room' r =
     (D : ℕ) (hs : List ℕ) (may : Bool) → Coming ws D hs room t p i w → Turned ws D may hs room (suc i) (Value w) hs room' r
 
--- the same, where the room is written with leave only
-abbrev pub ChangesIf : (may : Bool) (ws room : List ℕ) (t p i w : ℕ) (room' : List ℕ) → Go → Type 0
-ChangesIf may ws room t p i w room' r =
-    (D : ℕ) (hs : List ℕ) → Coming ws D hs room t p i w → Turned ws D may hs room (suc i) (Value w) hs room' r
-
 -- the turn that a redex's outcome makes at place p
 unfoldable pub finish_of : Outcome → (p i : ℕ) → Go
 finish_of (Gives u) p i = Stepped (Value u) i

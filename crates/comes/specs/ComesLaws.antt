@@ -22,94 +22,73 @@ use Rattle.redexes.specs.declared.Thrown.{Thrown}
 use Rattle.redexes.specs.declared.Thrown.TheVariants.{Null}
 use Rattle.redexes.specs.Outcomes.{redex_of, Sound, Chooses, ThrowsAt, Throws}
 use Rattle.objects.specs.Spots.{FieldSpot, FieldRaises, FieldFails}
-use Rattle.room.specs.declared.Focus.{Focus}
 use Rattle.room.specs.declared.Focus.TheVariants.{Node, Value as Word, Thrown as At}
 use Rattle.room.specs.declared.Go.TheVariants.{Moved, Stepped, Limit, Stuck}
 use Rattle.room.specs.Room.{search_word, frame_at, store_of, shape_of, begun, frame_of, word, frame, frames, Fit}
-use Rattle.room.specs.RoomLaws.{fit_less, fit_place}
+use Rattle.room.specs.RoomLaws.{fit_less}
 use Rattle.room.specs.Enter.{outers_in}
-use Rattle.room.specs.Rest.{armed_seq, resting}
+use Rattle.room.specs.Armed.{armed_seq}
 use Rattle.room.specs.Turn.{HeapOk, focus_of, weight, pending, Turned, Steps}
 use Rattle.room.specs.Back as back
 use Rattle.room.specs.Back.{Back}
 use Rattle.pushes.specs.Turns.{Writes, rest_of}
 use Rattle.pushes.specs.TakeUp.{takes_rest, rest_place}
 use Rattle.comes.specs.Comes.{Coming, finish_of, First}
-use Rattle.comes.specs.RestLaws.{Settled, cast, get, block, seq, choice, test, try, add, eq, put, loop, settled_rests, assign_rests, throw_rests, null_plain}
 
 module _ (ws : List ℕ) (D : ℕ) (hs room : List ℕ) (p i w : ℕ) (may : Bool) where
-  rests : {t : ℕ} → Settled t → Coming ws D hs room t p i w → resting ws room (suc i) (Word w) ≡ true
-  rests s k = settled_rests ws room i w s k.tagged
-
-  -- a step that writes nothing
-  still : {l : ℕ} {g : Focus} → Steps ws D hs room (suc i) (Word w) hs room l g → resting ws room (suc i) (Word w) ≡ true
-      → Turned ws D may hs room (suc i) (Word w) hs room (Stepped g l)
-  still s r = (s, λ f. (refl, (refl, r)))
-
-  -- one that writes is taken with leave,
-  module _ {hs' room' : List ℕ} {l : ℕ} {g : Focus} (s : Steps ws D hs room (suc i) (Word w) hs' room' l g) where
-    allowed : may ≡ true → Turned ws D may hs room (suc i) (Word w) hs' room' (Stepped g l)
-    allowed m = (s, λ f. absurd (let z : ◌≡◌ {A = Bool} true false = sym m ∙ f in let y : ◌≡◌ {A = ℕ} 0 1 = cc in omega arith))
-
-    -- or not taken
-    refused : may ≡ false → resting ws room (suc i) (Word w) ≡ true → Turned ws D may hs room (suc i) (Word w) hs room Limit
-    refused m r = (record { heap = _; store = _; expr = _; goes = s.goes }, m, refl, (refl, r))
-
   -- a redex by its outcome
-  module _ (t : ℕ) (settled : Settled t) (k : Coming ws D hs room t p i w) (F : Frame) (r' : Redex)
+  module _ (t : ℕ) (k : Coming ws D hs room t p i w) (F : Frame) (r' : Redex)
       (b : Back ws k.nodes D hs room i w k.inv F (redex (word ws room i 1) (heap_of (program ws) hs) (store_of room) r')) where
     pub finished : (r : Outcome) → redex_of (heap_of (program ws) hs) r ≡ r' → Sound r
         → Turned ws D may hs room (suc i) (Word w) hs room (finish_of r p i)
     unfolding redex_of finish_of
-    finished (Gives u) e s =
-        still (back.redex_gives ws k.nodes D hs room i w k.inv F _ r' b hs u (sym e) s k.heap) (rests settled k)
+    finished (Gives u) e s = (back.redex_gives ws k.nodes D hs room i w k.inv F _ r' b hs u (sym e) s k.heap, λ f. refl)
     finished (Raises a) e s =
-        rw (← k.placed) (still (back.redex_raises ws k.nodes D hs room i w k.inv F _ r' b a (sym e) s (fit_place k.inv.fit) k.heap)
-        (rests settled k))
+        rw (← k.placed) (back.redex_raises ws k.nodes D hs room i w k.inv F _ r' b a (sym e) s k.heap, λ f. refl)
     finished Fails e s = rw (← k.placed) (back.redex_fails ws k.nodes D hs room i w k.inv F _ r' b (sym e), refl)
 
   pub cast_turned : Coming ws D hs room 1 p i w → (r : Outcome)
       → redex_of (heap_of (program ws) hs) r ≡ cast_redex (program ws) (heap_of (program ws) hs) (node_word ws p 2) (value_at w) → Sound r
       → Turned ws D may hs room (suc i) (Word w) hs room (finish_of r p i)
   cast_turned k r e s =
-      finished 1 cast k _ _ (back.back_cast ws k.nodes D hs room i w k.inv k.tagged) r (rw k.placed e) s
+      finished 1 k _ _ (back.back_cast ws k.nodes D hs room i w k.inv k.tagged) r (rw k.placed e) s
 
   pub add_turned : Coming ws D hs room 20 p i w → (v : ℕ) → word ws room i 2 ≡ v → (r : Outcome)
       → redex_of (heap_of (program ws) hs) r ≡ add_redex (heap_of (program ws) hs) (value_at v) (value_at w) → Sound r
       → Turned ws D may hs room (suc i) (Word w) hs room (finish_of r p i)
   add_turned k v q r e s =
-      finished 20 add k _ _ (back.back_add ws k.nodes D hs room i w k.inv k.tagged) r (rw q e) s
+      finished 20 k _ _ (back.back_add ws k.nodes D hs room i w k.inv k.tagged) r (rw q e) s
 
   pub eq_turned : Coming ws D hs room 21 p i w → (v : ℕ) → word ws room i 2 ≡ v → (u : ℕ)
       → value_at u ≡ Value.Bool (same_value (value_at v) (value_at w)) → IsValue u
       → Turned ws D may hs room (suc i) (Word w) hs room (Stepped (Word u) i)
   unfolding eq_redex
-  eq_turned k v q u e s =
-      still
-      (back.redex_gives ws k.nodes D hs room i w k.inv _ _ _ (back.back_eq ws k.nodes D hs room i w k.inv k.tagged) hs u
-      (rw (q, e)) s k.heap)
-      (rests eq k)
+  eq_turned k v q u e s = (
+    back.redex_gives ws k.nodes D hs room i w k.inv _ _ _ (back.back_eq ws k.nodes D hs room i w k.inv k.tagged) hs u
+        (rw (q, e)) s k.heap,
+    λ f. refl,
+  )
 
   -- a field is read
   module _ (k : Coming ws D hs room 7 p i w) where
     pub get_at : (j : ℕ) → FieldSpot ws hs (node_word ws p 2) (node_word ws p 3) w j
         → Turned ws D may hs room (suc i) (Word w) hs room (Stepped (Word (get_or hs j 0)) i)
-    get_at j s =
-        still
-        (back.redex_gives ws k.nodes D hs room i w k.inv _ _ _ (back.back_get ws k.nodes D hs room i w k.inv k.tagged) hs
-        (get_or hs j 0) (rw k.placed s.reads) s.holds k.heap)
-        (rests get k)
+    get_at j s = (
+      back.redex_gives ws k.nodes D hs room i w k.inv _ _ _ (back.back_get ws k.nodes D hs room i w k.inv k.tagged) hs
+          (get_or hs j 0) (rw k.placed s.reads) s.holds k.heap,
+      λ f. refl,
+    )
 
     pub get_raises : (a : ℕ) → FieldRaises ws hs (node_word ws p 2) (node_word ws p 3) w a
         → Turned ws D may hs room (suc i) (Word w) hs room (Stepped (At a p) i)
     get_raises a s =
         let q : word ws room i 1 ≡ p = k.placed in
         let e = rw (← q) at s.reads in
-        rw (← q)
-        (still
-        (back.redex_raises ws k.nodes D hs room i w k.inv _ _ _ (back.back_get ws k.nodes D hs room i w k.inv k.tagged) a e
-        s.known (fit_place k.inv.fit) k.heap)
-        (rests get k))
+        rw (← q) (
+          back.redex_raises ws k.nodes D hs room i w k.inv _ _ _ (back.back_get ws k.nodes D hs room i w k.inv k.tagged) a e
+              s.known k.heap,
+          λ f. refl,
+        )
 
     pub get_fails : FieldFails ws hs (node_word ws p 2) (node_word ws p 3) w
         → Turned ws D may hs room (suc i) (Word w) hs room (Stuck p)
@@ -138,22 +117,22 @@ module _ (ws : List ℕ) (D : ℕ) (hs room : List ℕ) (p i w : ℕ) (may : Boo
 
     pub set_at : (j : ℕ) → FieldSpot ws hs (node_word ws p 2) (node_word ws p 3) v j → may ≡ true
         → Turned ws D may hs room (suc i) (Word w) (set hs j w) room (Stepped (Word w) i)
-    set_at j s m = allowed (wrote j s) m
+    set_at j s m = (wrote j s, λ f. absurd (let z : ◌≡◌ {A = Bool} true false = sym m ∙ f in let y : ◌≡◌ {A = ℕ} 0 1 = cc in omega arith))
 
     pub set_limit : (j : ℕ) → FieldSpot ws hs (node_word ws p 2) (node_word ws p 3) v j → may ≡ false
         → Turned ws D may hs room (suc i) (Word w) hs room Limit
-    set_limit j s m = refused (wrote j s) m (rests put k)
+    set_limit j s m = (record { heap = _; store = _; expr = _; goes = (wrote j s).goes }, m, refl)
 
     pub set_raises : (a : ℕ) → FieldRaises ws hs (node_word ws p 2) (node_word ws p 3) v a
         → Turned ws D may hs room (suc i) (Word w) hs room (Stepped (At a p) i)
     set_raises a s =
         let q : word ws room i 1 ≡ p = k.placed in
         let e = rw (← q, ← third) at (s.writes (value_at w)) in
-        rw (← q)
-        (still
-        (back.redex_raises ws k.nodes D hs room i w k.inv _ _ _ (back.back_put ws k.nodes D hs room i w k.inv k.tagged) a e
-        s.known (fit_place k.inv.fit) k.heap)
-        (rests put k))
+        rw (← q) (
+          back.redex_raises ws k.nodes D hs room i w k.inv _ _ _ (back.back_put ws k.nodes D hs room i w k.inv k.tagged) a e
+              s.known k.heap,
+          λ f. refl,
+        )
 
     pub set_fails : FieldFails ws hs (node_word ws p 2) (node_word ws p 3) v
         → Turned ws D may hs room (suc i) (Word w) hs room (Stuck p)
@@ -176,34 +155,26 @@ module _ (ws : List ℕ) (D : ℕ) (hs room : List ℕ) (p i w : ℕ) (may : Boo
 
   pub seq_turned : Coming ws D hs room 11 p i w → Turned ws D may hs room (suc i) (Word w) hs room (Stepped (Node (p - 1)) i)
   unfolding operand
-  seq_turned k = rw (← k.placed) (still (back.seq_steps ws k.nodes D hs room i w k.inv k.heap k.tagged) (rests seq k))
+  seq_turned k = rw (← k.placed) (back.seq_steps ws k.nodes D hs room i w k.inv k.heap k.tagged, λ f. refl)
 
   pub loop_turned : Coming ws D hs room 29 p i w → Turned ws D may hs room (suc i) (Word w) hs room (Stepped (Node p) i)
-  loop_turned k = rw (← k.placed) (still (back.loop_steps ws k.nodes D hs room i w k.inv k.heap k.tagged) (rests loop k))
+  loop_turned k = rw (← k.placed) (back.loop_steps ws k.nodes D hs room i w k.inv k.heap k.tagged, λ f. refl)
 
   pub try_turned : Coming ws D hs room 15 p i w → Turned ws D may hs room (suc i) (Word w) hs room (Stepped (Word w) i)
-  try_turned k = still (back.try_steps ws k.nodes D hs room i w k.inv k.heap k.tagged) (rests try k)
+  try_turned k = (back.try_steps ws k.nodes D hs room i w k.inv k.heap k.tagged, λ f. refl)
 
-  -- a Block is over
-  module _ (k : Coming ws D hs room 10 p i w) where
-    left : Steps ws D hs room (suc i) (Word w) hs (set room (word ws room i 2) (word ws room i 4)) i (Word w)
-    left = back.block_steps ws k.nodes D hs room i w k.inv k.heap k.tagged
-
-    pub block_turned : may ≡ true
-        → Turned ws D may hs room (suc i) (Word w) hs (set room (word ws room i 2) (word ws room i 4)) (Stepped (Word w) i)
-    block_turned m = allowed left m
-
-    pub block_limit : may ≡ false → Turned ws D may hs room (suc i) (Word w) hs room Limit
-    block_limit m = refused left m (rests block k)
+  pub block_turned : Coming ws D hs room 10 p i w
+      → Turned ws D may hs room (suc i) (Word w) hs (set room (word ws room i 2) (word ws room i 4)) (Stepped (Word w) i)
+  block_turned k = (back.block_steps ws k.nodes D hs room i w k.inv k.heap k.tagged, λ f. refl)
 
   -- the arms of an If
   module _ (k : Coming ws D hs room 12 p i w) where
     pub if_then : Chooses w Then → Turned ws D may hs room (suc i) (Word w) hs room (Stepped (Node (operand ws p 1)) i)
-    if_then e = rw (← k.placed) (still (back.then_steps ws k.nodes D hs room i w k.inv k.heap k.tagged (e _ _ _ _ _)) (rests choice k))
+    if_then e = rw (← k.placed) (back.then_steps ws k.nodes D hs room i w k.inv k.heap k.tagged (e _ _ _ _ _), λ f. refl)
 
     pub if_else : Chooses w Otherwise → Turned ws D may hs room (suc i) (Word w) hs room (Stepped (Node (p - 1)) i)
     unfolding operand
-    if_else e = rw (← k.placed) (still (back.else_steps ws k.nodes D hs room i w k.inv k.heap k.tagged (e _ _ _ _ _)) (rests choice k))
+    if_else e = rw (← k.placed) (back.else_steps ws k.nodes D hs room i w k.inv k.heap k.tagged (e _ _ _ _ _), λ f. refl)
 
     pub if_stuck : Chooses w Choice.Fails → Turned ws D may hs room (suc i) (Word w) hs room (Stuck p)
     if_stuck e =
@@ -215,19 +186,13 @@ module _ (ws : List ℕ) (D : ℕ) (hs room : List ℕ) (p i w : ℕ) (may : Boo
 
   -- the arms of a loop's If
   module _ (k : Coming ws D hs room 13 p i w) where
-    again : Chooses w Then → Steps ws D hs room (suc i) (Word w) hs (set room (frame_at i) 29) (suc i) (Node (p - 1))
-    unfolding operand
-    again e = rw (← k.placed) (back.again_steps ws k.nodes D hs room i w k.inv k.heap k.tagged (e _ _ _ _ _))
-
-    pub test_again : Chooses w Then → may ≡ true
+    pub test_again : Chooses w Then
         → Turned ws D may hs room (suc i) (Word w) hs (set room (frame_at i) 29) (Stepped (Node (p - 1)) (suc i))
-    test_again e m = allowed (again e) m
-
-    pub test_limit : Chooses w Then → may ≡ false → Turned ws D may hs room (suc i) (Word w) hs room Limit
-    test_limit e m = refused (again e) m (rests test k)
+    unfolding operand
+    test_again e = rw (← k.placed) (back.again_steps ws k.nodes D hs room i w k.inv k.heap k.tagged (e _ _ _ _ _), λ f. refl)
 
     pub test_over : Chooses w Otherwise → Turned ws D may hs room (suc i) (Word w) hs room (Stepped (Word 0) i)
-    test_over e = still (back.over_steps ws k.nodes D hs room i w k.inv k.heap k.tagged (e _ _ _ _ _)) (rests test k)
+    test_over e = (back.over_steps ws k.nodes D hs room i w k.inv k.heap k.tagged (e _ _ _ _ _), λ f. refl)
 
     pub test_stuck : Chooses w Choice.Fails → Turned ws D may hs room (suc i) (Word w) hs room (Stuck p)
     test_stuck e =
@@ -246,11 +211,11 @@ module _ (ws : List ℕ) (D : ℕ) (hs room : List ℕ) (p i w : ℕ) (may : Boo
     pub throw_null : Throws w Null → Turned ws D may hs room (suc i) (Word w) hs room (Stepped (At 0 p) i)
     unfolding redex focus_of
     throw_null e =
-        rw (← k.placed)
-        (still
-        (back.steps_less ws k.nodes D hs room i w k.inv (back.back_throw ws k.nodes D hs room i w k.inv k.tagged)
-        (word ws room i 1) hs (At 0 (word ws room i 1)) (e _ _ _) (omega arith, fit_place k.inv.fit) k.heap)
-        (throw_rests ws room i w k.tagged (null_plain 0 (heap_of (program ws) hs) (store_of room) (value_at w) (e _ _ _))))
+        rw (← k.placed) (
+          back.steps_less ws k.nodes D hs room i w k.inv (back.back_throw ws k.nodes D hs room i w k.inv k.tagged)
+              (word ws room i 1) hs (At 0 (word ws room i 1)) (e _ _ _) (omega arith) k.heap,
+          λ f. refl,
+        )
 
     pub throw_stuck : Throws w Thrown.Fails → Turned ws D may hs room (suc i) (Word w) hs room (Stuck p)
     throw_stuck e =
@@ -261,18 +226,11 @@ module _ (ws : List ℕ) (D : ℕ) (hs room : List ℕ) (p i w : ℕ) (may : Boo
         )
 
   -- an Assign that no block takes up
-  module _ (k : Coming ws D hs room 6 p i w) (x : ℕ) (e : x ≡ node_word ws p 2) (a : armed_seq ws room i x ≡ false) where
-    named : x ≡ node_word ws (word ws room i 1) 2
-    named = e ∙ ap (λ n. node_word ws n 2) (sym k.placed)
-
-    assigns : Steps ws D hs room (suc i) (Word w) hs (set room x (suc w)) i (Word w)
-    assigns = rw named (back.assign_steps ws k.nodes D hs room i w k.inv k.heap k.tagged (rw (← named) a))
-
-    pub assign_turned : may ≡ true → Turned ws D may hs room (suc i) (Word w) hs (set room x (suc w)) (Stepped (Word w) i)
-    assign_turned m = allowed assigns m
-
-    pub assign_limit : may ≡ false → Turned ws D may hs room (suc i) (Word w) hs room Limit
-    assign_limit m = refused assigns m (assign_rests ws room i w k.tagged (rw (← named) a))
+  pub assign_turned : Coming ws D hs room 6 p i w → (x : ℕ) → x ≡ node_word ws p 2 → armed_seq ws room i x ≡ false
+      → Turned ws D may hs room (suc i) (Word w) hs (set room x (suc w)) (Stepped (Word w) i)
+  assign_turned k x e a =
+      let q : x ≡ node_word ws (word ws room i 1) 2 = e ∙ ap (λ n. node_word ws n 2) (sym k.placed) in
+      rw q (back.assign_steps ws k.nodes D hs room i w k.inv k.heap k.tagged (rw (← q) a), λ f. refl)
 
 -- an Assign whose value a block takes up
 module _ (ws : List ℕ) (D : ℕ) (hs room : List ℕ) (p w x : ℕ) (may : Bool) where

@@ -12,7 +12,7 @@ use Rattle.room.specs.RoomLaws.{fit_first, fit_second}
 use Rattle.comes.specs.Comes.{First, Unheaped}
 
 module _ (ws room : List ℕ) (i : ℕ) (fit : Fit ws room (suc i)) where
-  ok : FrameOk ws (shape_of (tag ws room i)) (tag ws room i) (word ws room i 1) (word ws room i 2) (word ws room i 3) (word ws room i 4) (kept ws room i)
+  ok : FrameOk ws (shape_of (tag ws room i)) (tag ws room i) (word ws room i 1) (word ws room i 2) (word ws room i 4) (kept ws room i)
   ok = fit.frame_ok i (omega arith)
 
   pub node_first : (k p : ℕ) → shape_of k ≡ first → tag ws room i ≡ k → word ws room i 1 ≡ p → IsNode ws p k

@@ -11,7 +11,7 @@ ghost use Rattle.rows.specs.Rows.{Sizes};
 ghost use Rattle.room.specs.declared.Focus.TheVariants.{Value};
 ghost use Rattle.room.specs.Room.{frame_at, word, Fit};
 ghost use Rattle.room.specs.Turn.{Turned};
-ghost use Rattle.comes.specs.Comes.{Coming, Stays, Pairs, Changes, ChangesIf, First, finish_of};
+ghost use Rattle.comes.specs.Comes.{Coming, Stays, Pairs, Changes, First, finish_of};
 
 use image::Layout;
 use objects::Spot;
@@ -118,13 +118,10 @@ pub fn back_first(room: &mut [u64], t: u64, p: usize, i: usize, w: u64) -> Go
 }
 
 // A Block is over: its variable is again what it was outside.
-pub fn back_block(room: &mut [u64], may: bool, i: usize, w: u64) -> Go
+pub fn back_block(room: &mut [u64], i: usize, w: u64) -> Go
     requires { (get_or room.old (frame_at i + 2) 0 < variables) × (frame_at (suc i) ≤ length room.old) }
-    ensures { (ws : List ℕ) (p : ℕ) → ChangesIf may ws room.old 10 p i w room.new result }
+    ensures { (ws : List ℕ) (p : ℕ) → Changes ws room.old 10 p i w room.new result }
 {
-    if !may {
-        return Go::Limit;
-    }
     let at = FRAMES + FRAME_WORDS * i;
     let x = room[at + 2] as usize;
     room[x] = room[at + 4];
@@ -144,15 +141,12 @@ pub fn back_if(ws: &[u32], lay: Layout, p: usize, i: usize, w: u64) -> Go
 }
 
 // The If of a loop: it becomes the Seq of the body and the loop, or the loop is over.
-pub fn back_test(room: &mut [u64], may: bool, p: usize, i: usize, w: u64) -> Go
+pub fn back_test(room: &mut [u64], p: usize, i: usize, w: u64) -> Go
     requires { (1 ≤ p) × (frame_at (suc i) ≤ length room.old) × IsValue w }
-    ensures { (ws : List ℕ) → ChangesIf may ws room.old 13 p i w room.new result }
+    ensures { (ws : List ℕ) → Changes ws room.old 13 p i w room.new result }
 {
     match redexes::if_redex(w) {
         Choice::Then => {
-            if !may {
-                return Go::Limit;
-            }
             room[FRAMES + FRAME_WORDS * i] = LOOP;
             Go::Stepped(Focus::Node(p - 1), i + 1)
         }
@@ -174,26 +168,15 @@ pub fn back_throw(p: usize, i: usize, w: u64) -> Go
 }
 
 // An Assign. Where a block takes the value up, the sequence that the Assign begins goes on with its rest.
-pub fn back_assign(
-    ws: &[u32],
-    lay: Layout,
-    room: &mut [u64],
-    may: bool,
-    p: usize,
-    i: usize,
-    w: u64,
-) -> Go
+pub fn back_assign(ws: &[u32], lay: Layout, room: &mut [u64], p: usize, i: usize, w: u64) -> Go
     requires { Good ws.now lay × (p < lay.node_count) × (node_word ws.now p 0 ≡ 6) × Fit ws.now room.old (suc i) × IsValue w }
-    ensures { ChangesIf may ws.now room.old 6 p i w room.new result }
+    ensures { Changes ws.now room.old 6 p i w room.new result }
 {
     let x = image::node_word(ws, lay, p, 2) as usize;
     if pushes::armed_seq(room, i, x) {
         let j = i - 1;
         let rest = pushes::take_up(room, j, x, w);
         return Go::Moved(Focus::Node(rest), j);
-    }
-    if !may {
-        return Go::Limit;
     }
     room[x] = w + 1;
     Go::Stepped(Focus::Value(w), i)

@@ -8,13 +8,11 @@ use room::{Focus, Go};
 use rules::End;
 use words::{Decoded, Value};
 
-// How a run ended, and how many steps were taken by then; what was looked at, and under how many frames.
+// How a run ended, and how many steps it took.
 #[derive(Drop)]
 pub struct Finished {
     pub end: End,
     pub count: u64,
-    pub focus: Focus,
-    pub level: usize,
 }
 
 // The end of a run whose focus is final.
@@ -58,40 +56,44 @@ pub fn next_of(g: Go, limit: u64, count: u64) -> Next
     }
 }
 
-// An end after so many steps, with the focus f under l frames.
-pub fn over(end: End, count: u64, f: Focus, l: usize) -> Finished
-    ensures { result ≡ record { end = end; count = count; focus = f; level = l } }
+// An end after so many steps.
+fn over(end: End, count: u64) -> Finished
+    ensures { result ≡ record { end = end; count = count } }
 {
     Finished {
         end: end,
         count: count,
-        focus: f,
-        level: l,
     }
 }
 
-// The end of a run whose last turn came to g, from the focus f under l frames.
-pub fn ended(g: Go, f: Focus, l: usize, limit: u64, count: u64) -> Finished
-    ensures { result ≡ ended_at g f l limit count }
+// The end of a run whose last turn came to g, with the focus f.
+pub fn ended(g: Go, f: Focus, limit: u64, count: u64) -> Finished
+    ensures { result ≡ ended_at g f limit count }
 {
     match g {
-        Go::Moved(_, _) => over(End::OutOfSteps, count, f, l),
-        Go::Stepped(_, _) => over(End::OutOfSteps, count, f, l),
-        Go::Limit => over(End::OutOfSteps, count, f, l),
-        Go::Sunk => sunk(f, l, limit, count),
-        Go::Stuck(q) => over(End::Stuck(q), count, f, l),
-        Go::Deep => over(End::TooDeep, count, f, l),
-        Go::Over => over(final_end(f), count, f, l),
+        Go::Moved(_, _) => over(End::OutOfSteps, count),
+        Go::Stepped(_, _) => over(End::OutOfSteps, count),
+        Go::Limit => over(End::OutOfSteps, count),
+        Go::Sunk => sunk(limit, count),
+        Go::Stuck(q) => over(End::Stuck(q), count),
+        Go::Deep => over(End::TooDeep, count),
+        Go::Over => over(final_end(f), count),
     }
 }
 
 // A step after which the active place is too deep, if it may be taken.
-fn sunk(f: Focus, l: usize, limit: u64, count: u64) -> Finished
-    ensures { result ≡ sunk_at f l limit count }
+fn sunk(limit: u64, count: u64) -> Finished
+    ensures { result ≡ sunk_at limit count }
 {
     if count < limit {
-        over(End::TooDeep, count + 1, f, l)
+        Finished {
+            end: End::TooDeep,
+            count: count + 1,
+        }
     } else {
-        over(End::OutOfSteps, count, f, l)
+        Finished {
+            end: End::OutOfSteps,
+            count: count,
+        }
     }
 }

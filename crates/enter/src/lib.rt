@@ -7,7 +7,7 @@ ghost use Rattle.rows.specs.Rows.{Rows};
 ghost use Rattle.room.specs.Room.{search_word, frame_at, first, shape_of};
 ghost use Rattle.room.specs.RoomLaws.{push, push3};
 ghost use Rattle.room.specs.Turn.{HeapOk, Inv, Turned};
-ghost use Rattle.pushes.specs.Turns.{Turns, TurnsIf, Within};
+ghost use Rattle.pushes.specs.Turns.{Turns, Within};
 
 use beyond::LITERAL;
 use image::Layout;
@@ -62,13 +62,10 @@ fn enter_block(ws: &[u32], lay: Layout, room: &mut [u64], n: usize, l: usize) ->
 }
 
 // A While steps to an If, whose condition is gone into.
-fn enter_while(ws: &[u32], lay: Layout, room: &mut [u64], may: bool, n: usize, l: usize) -> Go
+fn enter_while(ws: &[u32], lay: Layout, room: &mut [u64], n: usize, l: usize) -> Go
     requires { Good ws.now lay × (n < lay.node_count) × (frame_at (suc l) ≤ length room.old) × (node_word ws.now n 0 ≡ 13) }
-    ensures { TurnsIf may ws.now room.old l (Node n) room.new (Within l) result }
+    ensures { Turns ws.now room.old l (Node n) room.new (Within l) result }
 {
-    if !may {
-        return Go::Limit;
-    }
     let m = operands::operand_place(ws, lay, n, 1);
     pushes::push(room, l, 13, n);
     Go::Stepped(Focus::Node(m), l + 1)
@@ -116,7 +113,7 @@ pub fn enter(
         3 => enter_var(ws, lay, room, n, l),
         9 => enter_call(ws, lay, room, n, l),
         10 => enter_block(ws, lay, room, n, l),
-        13 => enter_while(ws, lay, room, may, n, l),
+        13 => enter_while(ws, lay, room, n, l),
         _ => enter_first(ws, lay, room, n, l, kind),
     }
 }

@@ -45,7 +45,6 @@ leaps_before {ws} {D} {k} {hs} {room} {new} {l} {f} c a =
             size = a.leads.size ∙ c.size;
             heap = a.leads.heap;
             runs = λ m n. rw (← kept_whole ws D c f, ← kept_outside ws D c f) (a.leads.runs m n);
-            comes = rw (← kept_whole ws D c f, ← kept_outside ws D c f) a.leads.comes;
             rests = λ e. rw (← kept_phi ws D c f) (a.leads.rests e);
           };
       falls = λ e. rw (← kept_phi ws D c f) (a.falls e);

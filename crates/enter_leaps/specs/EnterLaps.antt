@@ -20,7 +20,7 @@ use Rattle.room.specs.Turn.{HeapOk, Inv}
 use Rattle.room.specs.Enter.{enter_first}
 use Rattle.room.specs.Nodes.{while_steps, enter_block, assign_local}
 use Rattle.room.specs.Back.{assign_steps, then_steps, else_steps, over_steps, again_steps}
-use Rattle.room.specs.Rest.{armed_seq}
+use Rattle.room.specs.Armed.{armed_seq}
 use Rattle.room.specs.Leads.{Leaps}
 use Rattle.room.specs.LeadsLaws.{leaps_move, leaps_step, leaps_on, leaps_kept}
 use Rattle.quick.specs.declared.Quick.{Quick}

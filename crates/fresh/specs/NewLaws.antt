@@ -72,7 +72,7 @@ module _ (ws : List ℕ) (good : (n : ℕ) → n < node_count ws → node_holds 
   unfolding focus_of kind_of redex
   new_throws e =
       record {
-        inv = record { fit = inv.fit; level = inv.level; long = inv.long; here = (omega arith, inv.here) };
+        inv = record { fit = inv.fit; level = inv.level; long = inv.long; here = omega arith };
         size = refl;
         heap = ok;
         goes =

@@ -2,7 +2,7 @@
 use Rattle.std.specs.Prelude.{◌≡◌, refl, Bool, true, false, ◌&&◌, ◌||◌, List, ℕ, zero, suc, eqb, get_or}
 use Rattle.std.proofs.Common.{ne_eqb}
 use Rattle.room.specs.Room.{word, tag}
-use Rattle.room.specs.Rest.{armed, armed_seq}
+use Rattle.room.specs.Armed.{armed, armed_seq}
 
 and_none : (b : Bool) → (b && false) ≡ false
 and_none true = refl

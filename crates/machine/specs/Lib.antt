@@ -1,5 +1,4 @@
 -- The run as a loop of turns and strides: laws alone.
 pub mod Runs
-pub mod LastLaws
 pub mod NextLaws
 pub mod LedLaws

@@ -1,15 +1,17 @@
 // The machine: turns are taken until the run ends. The expression is kept in the lent room, the focus and the level in locals.
-ghost use Rattle.std.specs.Prelude.{◌≡◌, ◌-◌, ◌≤◌, get_or};
+ghost use Rattle.std.specs.Prelude.{◌≡◌, ◌-◌, ◌≤◌, length, get_or};
 ghost use Rattle.image.specs.Trailer.{class_count};
 ghost use Rattle.image.specs.Layout.{Good};
 ghost use Rattle.rules.specs.Program.{program};
+ghost use Rattle.rules.specs.Heap.{heap_of};
+ghost use Rattle.rules.specs.Run.{run};
 ghost use Rattle.laws.specs.Heap.{Words};
 ghost use Rattle.rows.specs.Rows.{Sizes, Rows};
+ghost use Rattle.room.specs.declared.Focus.TheVariants.{Node, Thrown};
 ghost use Rattle.room.specs.Room.{search_word, Fit};
-ghost use Rattle.room.specs.Turn.{HeapOk, FocusOk, Inv};
+ghost use Rattle.room.specs.Turn.{HeapOk, FocusOk, whole, outside, Inv};
 ghost use Rattle.memo.specs.Memo.{Memo};
-ghost use Rattle.room.specs.Leads.{state_at};
-ghost use Rattle.ends.specs.Finished.{Ran};
+ghost use Rattle.ends.specs.Finished.{Finishes};
 ghost use Rattle.strides.specs.Reaches.{Reaches};
 
 use ends::{Finished, Next};
@@ -84,7 +86,7 @@ fn run_with(
     taken: u64,
 ) -> Finished
     requires { Good ws.now lay × Rows ws.now counts.now types.now × Inv ws.now depth room.old from start × HeapOk ws.now heap.old (get_or room.old search_word 0) × Memo ws.now memo.old × (taken ≤ limit) }
-    ensures { Ran ws.now depth (limit - taken) taken (state_at ws.now heap.old room.old from start) room.old result heap.new room.new }
+    ensures { Finishes (run depth (program ws.now) (limit - taken) taken (heap_of (program ws.now) heap.old) (outside ws.now room.old from) (whole ws.now room.old from start)) result heap.new × (length room.new ≡ length room.old) }
 {
     let mut focus = start;
     let mut level = from;
@@ -95,7 +97,7 @@ fn run_with(
         let g = turns::turn(ws, lay, counts, types, heap, room, depth, may, level, focus);
         match ends::next_of(g, limit, count) {
             Next::End => {
-                return ends::ended(g, focus, level, limit, count);
+                return ends::ended(g, focus, limit, count);
             },
             Next::On(f, l, c) => {
                 let left = limit - c;
@@ -108,8 +110,8 @@ fn run_with(
     }
 }
 
-// A run from a focus under so many frames on, so many steps having been taken, up to a limit on all of them.
-pub fn run_from(
+// A run from node n on.
+pub fn run_on(
     ws: &[u32],
     lay: Layout,
     counts: &[usize],
@@ -118,17 +120,14 @@ pub fn run_from(
     room: &mut [u64],
     depth: usize,
     limit: u64,
-    start: Focus,
-    from: usize,
-    taken: u64,
+    n: usize,
 ) -> Finished
-    requires { Good ws.now lay × Rows ws.now counts.now types.now × Inv ws.now depth room.old from start × HeapOk ws.now heap.old (get_or room.old search_word 0) × (taken ≤ limit) }
-    ensures { Ran ws.now depth (limit - taken) taken (state_at ws.now heap.old room.old from start) room.old result heap.new room.new }
+    requires { Good ws.now lay × Rows ws.now counts.now types.now × Inv ws.now depth room.old 0 (Node n) × HeapOk ws.now heap.old (get_or room.old search_word 0) }
+    ensures { Finishes (run depth (program ws.now) limit 0 (heap_of (program ws.now) heap.old) (outside ws.now room.old 0) (whole ws.now room.old 0 (Node n))) result heap.new × (length room.new ≡ length room.old) }
 {
     let mut memo = [0u64; MEMO_WORDS];
-    let left = limit - taken;
-    let r = onward(
-        ws, lay, counts, types, heap, room, &memo, depth, start, from, left,
+    let r = strides::strides(
+        ws, lay, counts, types, heap, room, &memo, depth, n, 0, limit,
     );
     run_with(
         ws,

@@ -3,7 +3,6 @@ ghost use Rattle.std.specs.Prelude.{◌≡◌, length};
 ghost use Rattle.muthaveri.specs.Answers.{of_answer, check_answer, conform_answer, RunAnswers};
 
 use order::Answer;
-use pause::Record;
 
 // The paper's number and place. Of a run that was not refused also the steps that it took, and the word of the value or address that its
 // end carries. Where there is no such count or word, it is 0.
@@ -44,77 +43,20 @@ pub extern "C" fn muthaveri_conform(image: &[u32], heap: &[u64], inputs: &[u64])
     told(conform::conformity(image, heap, inputs))
 }
 
-// The answer to a run as seven numbers: what a caller gets, and then the record.
-#[derive(Drop)]
-pub struct Seven {
-    pub number: u64,
-    pub place: u64,
-    pub count: u64,
-    pub value: u64,
-    pub steps: u64,
-    pub node: u64,
-    pub levels: u64,
-}
-
-// The run, with the record by its three numbers.
-fn run_numbers(
-    image: &[u32],
-    heap: &mut [u64],
-    inputs: &[u64],
-    room: &mut [u64],
-    taken: u64,
-    node: u64,
-    levels: u64,
-    steps: u64,
-    depth: u64,
-) -> Seven {
-    let kept = Record {
-        steps: taken,
-        node: node,
-        levels: levels,
-    };
-    let w = run::run(image, heap, inputs, room, kept, steps, depth);
-    let k = w.kept;
-    let ran = w.ran;
-    let t = run::numbers_of(ran);
-    Seven {
-        number: t.number,
-        place: t.place,
-        count: t.count,
-        value: t.value,
-        steps: k.steps,
-        node: k.node,
-        levels: k.levels,
-    }
-}
-
-// The run of the image on the heap, with main's inputs, in lent room: at most so many steps in this call, and at most so deep. A room
-// and a record that are all 0 start a run; any others go on with the one that they hold. A refusal changes no word; at an end the heap is
-// as the steps left it, and room and record hold the run where it is out of steps, and are else all 0.
+// The run of the image on the heap, with main's inputs, in lent room: at most so many steps, and at most so deep. A refusal changes no
+// word; at an end the heap is as the steps left it, and the room is all 0.
 #[unsafe(no_mangle)]
 pub extern "C" fn muthaveri_run(
     image: &[u32],
     heap: &mut [u64],
     inputs: &[u64],
     room: &mut [u64],
-    kept: &mut Record,
     steps: u64,
     depth: u64,
-) -> MuthaveriAnswer {
-    let t = run_numbers(
-        image,
-        heap,
-        inputs,
-        room,
-        kept.steps,
-        kept.node,
-        kept.levels,
-        steps,
-        depth,
-    );
-    kept.steps = t.steps;
-    kept.node = t.node;
-    kept.levels = t.levels;
+) -> MuthaveriAnswer
+    ensures { RunAnswers image.now heap.old inputs.now room.old steps depth result heap.new room.new }
+{
+    let t = run::numbers_of(run::run(image, heap, inputs, room, steps, depth));
     MuthaveriAnswer {
         number: t.number,
         place: t.place,

@@ -1,27 +1,36 @@
 -- Rows by computation: runs of the bench's images cut at each step, the words of one, and words that are no layout.
-use Rattle.std.specs.Prelude.{◌≡◌, refl, Bool, true, false, List, [], ◌∷◌, ◌++◌, map, ℕ, set, take, replicate}
+use Rattle.std.specs.Prelude.{◌≡◌, refl, Bool, true, false, List, [], ◌∷◌, ◌++◌, map, ℕ, zero, suc, set, take, replicate}
 use Rattle.std.proofs.Math.Option.{none}
 use Rattle.rules.specs.Maps.{tabulate}
 use Rattle.rules.specs.Trees.{place}
-use Rattle.rules.specs.Program.{program, main}
+use Rattle.rules.specs.Program.{Program, program, main}
 use Rattle.rules.specs.Heap.{heap_of}
-use Rattle.rules.specs.Step.{load}
-use Rattle.rules.specs.Run.{moved, after_steps}
+use Rattle.rules.specs.Step.{Out, load, step}
 use Rattle.rules.specs.Computing.{computing}
 use Rattle.rules.specs.Bench.{image, heap, doubled, summed, caught}
-use Rattle.room.specs.Room.{held, store_of, shape_of, makes_block}
-use Rattle.room.specs.Rest.{armed, armed_seq, steps_alone, rests_first, rests_in, resting}
+use Rattle.room.specs.Room.{held, store_of, shape_of}
+use Rattle.room.specs.Armed.{armed, armed_seq}
 use Rattle.pause.specs.Route.{Found, route}
 use Rattle.pause.specs.declared.Record.{Record}
-use Rattle.pause.specs.Layout.{held_word, ite_tag, seq_tag, here_words, frame_words, frame_word, room_word, room_of, around, record_of, frames_in, focus_in}
-use Rattle.pause.specs.Paused.{every, blank, held_holds, used, is_node, shape_fits, frame_fits, frame_holds, focus_holds, node_in, paused}
+use Rattle.pause.specs.Layout.{State, held_word, ite_tag, seq_tag, here_words, frame_words, frame_word, room_word, room_of, around, record_of, frames_in, focus_in}
+use Rattle.pause.specs.Paused.{every, blank, held_holds, steps_alone, makes_block, rests_first, used, is_node, shape_fits, frame_fits, frame_holds, focus_holds, rests_in, resting, node_in, paused}
+
+unfoldable next : State → Out → State
+next s (Out.value q v) = s
+next s (Out.thrown a) = s
+next s (Out.next d q h l e) = record { heap = h; store = l; expr = e }
+next s (Out.stuck d q) = s
+
+unfoldable steps : Program → ℕ → State → State
+steps P zero s = s
+steps P (suc n) s = steps P n (next s (step P s.expr s.heap s.store))
 
 module _ (nodes : List ℕ) where
   -- main's active place after n steps, and its layout in 160 words
   unfoldable cut : ℕ → Found
   cut n =
       let ws = image [] nodes in
-      let s = after_steps (program ws) n (record { heap = heap_of (program ws) (heap 1); store = λ x. none; expr = load (main ws) }) in
+      let s = steps (program ws) n (record { heap = heap_of (program ws) (heap 1); store = λ x. none; expr = load (main ws) }) in
       route s.expr s.store []
 
   unfoldable words : ℕ → List ℕ
@@ -37,8 +46,8 @@ module _ (nodes : List ℕ) where
   passes_at n = passes (words n) (told n)
 
 -- to unfold this is to unfold all that a layout computes with
-unfoldable pub laying : Unit {0}
-unfolding computing place image heap moved after_steps cut words told passes passes_at route held_word ite_tag seq_tag here_words frame_words frame_word room_word room_of around record_of frames_in focus_in every blank held_holds steps_alone makes_block rests_first used is_node shape_fits frame_fits frame_holds focus_holds rests_in resting node_in paused held store_of shape_of armed armed_seq
+unfoldable laying : Unit {0}
+unfolding computing place image heap next steps cut words told passes passes_at route held_word ite_tag seq_tag here_words frame_words frame_word room_word room_of around record_of frames_in focus_in every blank held_holds steps_alone makes_block rests_first used is_node shape_fits frame_fits frame_holds focus_holds rests_in resting node_in paused held store_of shape_of armed armed_seq
 laying = tt
 
 -- A run is paused at each step, and then final: { V : Integer; V := 1 + 1; V + V }, the same with V := 2, a Try that catches, a While,

@@ -22,16 +22,15 @@ use Rattle.room.specs.declared.Focus.TheVariants.{Node, Value as Word, Thrown}
 use Rattle.room.specs.Room.{most_operands, frame_at, Shape, first, second, operands, block, test, loop, nothing, shape_of, calling, frame_of, word, frame, frames}
 use Rattle.room.specs.RoomLaws.{store_at}
 use Rattle.room.specs.Nodes.{length_frames}
-use Rattle.room.specs.Turn.{whole, outside, FocusOk}
+use Rattle.room.specs.Turn.{whole, outside}
 use Rattle.pause.specs.Route.{route}
 use Rattle.pause.specs.declared.Record.{Record}
 use Rattle.pause.specs.Layout.{here_words, frame_words, frame_word, room_word, room_of, around, record_of}
-use Rattle.room.specs.Rest.{resting}
-use Rattle.pause.specs.Paused.{every, is_word, held_holds, used, is_node, shape_fits, frame_fits, frame_holds, node_in}
+use Rattle.pause.specs.Paused.{every, is_word, held_holds, used, is_node, shape_fits, frame_fits, frame_holds, resting, node_in}
 use Rattle.pause.specs.PausedLaws.{not_both, every_true, every_all}
 use Rattle.pause.specs.WordLaws.{word_back, held_back}
 use Rattle.pause.specs.FrameLaws.{frame_from, frame_from_lem, Words, parts_hold, holds_words}
-use Rattle.pause.specs.RestLaws.{here_of, found_in, leaf_node, routed}
+use Rattle.pause.specs.RestLaws.{here_of, found_in, FocusFits, leaf_node, routed}
 use Rattle.pause.specs.LaidLaws.{frame_word_none, over_found}
 use Rattle.pause.specs.LaidBack.{Reads, laid_back}
 use Rattle.pause.specs.Keep.{focus_words, clean, kept_word, kept_room, levels_of, kept_record}
@@ -122,7 +121,7 @@ module _ (ws : List ℕ) (w : ℕ → ℕ) where
     clean_words good = let c = cleans (shape_of (w 0)) refl in rw c.same at (holds_words ws good (clean w) c.holds)
 
 -- what words 65 to 67 become
-here_words_lem : (ws : List ℕ) (good : (n : ℕ) → n < node_count ws → node_holds ws n ≡ true) (room : List ℕ) (l : ℕ) (g : Focus) → FocusOk ws g
+here_words_lem : (ws : List ℕ) (good : (n : ℕ) → n < node_count ws → node_holds ws n ≡ true) (room : List ℕ) (l : ℕ) (g : Focus) → FocusFits ws g
     → resting ws room l g ≡ true → here_words (here_of ws g) ≡ focus_words g
 unfolding here_words focus_words resting
 here_words_lem ws good room l (Node n) h r = rw (leaf_node ws good n h r).at
@@ -164,7 +163,7 @@ module _ (ws : List ℕ) (good : (n : ℕ) → n < node_count ws → node_holds 
       let z : suc i - 1 ≡ i = omega arith in
       rw (z, frame_from_lem ws room i) (sym (clean_words ws (word ws room i) h good 1 (omega arith)) ∙ place_used (word ws room i) h)
 
-  kept_record_lem : (steps l : ℕ) (g : Focus) → ((i : ℕ) → i < l → frame_fits ws (word ws room i) ≡ true) → FocusOk ws g → resting ws room l g ≡ true
+  kept_record_lem : (steps l : ℕ) (g : Focus) → ((i : ℕ) → i < l → frame_fits ws (word ws room i) ≡ true) → FocusFits ws g → resting ws room l g ≡ true
       → kept_record ws room l g steps ≡ record_of ws steps (found_in ws room l g)
   unfolding kept_record record_of levels_of node_in resting frames
   kept_record_lem steps l (Node n) fit h r = rw ((leaf_node ws good n h r).at, length_frames ws room l)
@@ -174,7 +173,7 @@ module _ (ws : List ℕ) (good : (n : ℕ) → n < node_count ws → node_holds 
   kept_record_lem steps (suc i) (Thrown a p) fit h r = rw (place_around i (fit i (omega arith)), length_frames ws room i)
 
   module _ (l : ℕ) (g : Focus) (long : frame_at l ≤ length room) (fit : (i : ℕ) → i < l → frame_fits ws (word ws room i) ≡ true)
-      (vars : (x : ℕ) → x < variables → held_holds (get_or room x 0) ≡ true) (h : FocusOk ws g) (r : resting ws room l g ≡ true) where
+      (vars : (x : ℕ) → x < variables → held_holds (get_or room x 0) ≡ true) (h : FocusFits ws g) (r : resting ws room l g ≡ true) where
     kept_word_lem : (j : ℕ) → j < length room → kept_word ws room l g j ≡ room_word ws (found_in ws room l g) j
     unfolding room_word kept_word
     kept_word_lem j m = go (dec_lt j variables) (dec_lt j (frame_at 0))
@@ -214,7 +213,7 @@ pub keeps : (ws : List ℕ) (good : (n : ℕ) → n < node_count ws → node_hol
     → frame_at l ≤ length room
     → ((i : ℕ) → i < l → frame_fits ws (word ws room i) ≡ true)
     → ((x : ℕ) → x < variables → held_holds (get_or room x 0) ≡ true)
-    → FocusOk ws g
+    → FocusFits ws g
     → resting ws room l g ≡ true
     → Keeps ws (length room) steps (kept_room ws room l g) (kept_record ws room l g steps) (whole ws room l g) (outside ws room l)
 keeps ws good room l g steps long fit vars h r =

@@ -26,16 +26,15 @@ use Rattle.room.specs.declared.Focus.{Focus}
 use Rattle.room.specs.declared.Focus.TheVariants.{Node, Value as Word, Thrown}
 use Rattle.room.specs.Room.{frame_at, search_word, held, store_of, shape_of, loaded, operand_of, word, tag, frame, frames}
 use Rattle.room.specs.RoomLaws.{store_at}
-use Rattle.room.specs.Rest.{armed_seq, rests_first, rests_in, resting, address_of}
-use Rattle.room.specs.Armed.{armed_seq_frames, Takes, frame_block, frame_seq, frame_loop}
+use Rattle.room.specs.Armed.{armed_seq, armed_seq_frames, Takes, frame_block, frame_seq, frame_loop}
 use Rattle.room.specs.Nodes.{assign_local}
 use Rattle.room.specs.Turn.{focus_of}
-use Rattle.pause.specs.Route.{Here, leaf, came, flew, stands, Found, passed, route}
+use Rattle.pause.specs.Route.{Here, leaf, came, flew, stands, Found, address_of, passed, route}
 use Rattle.pause.specs.RouteLaws.{Enters}
 use Rattle.pause.specs.Unroute.{Landed, unroute}
 use Rattle.pause.specs.declared.Record.{Record}
 use Rattle.pause.specs.Layout.{held_word, here_words, seq_tag, ite_tag, frame_words, frame_word, room_word, room_of, around, record_of, frames_in, focus_in, level_in, focus_at, state_in}
-use Rattle.pause.specs.Paused.{frame_holds, focus_holds, node_in, paused}
+use Rattle.pause.specs.Paused.{rests_first, rests_in, frame_holds, focus_holds, resting, node_in, paused}
 use Rattle.pause.specs.Over.{Under, AllUnder, Over}
 use Rattle.pause.specs.PausedLaws.{passes}
 use Rattle.pause.specs.WordLaws.{value_word, value_back, variable_word, variable_back}

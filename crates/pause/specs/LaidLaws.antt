@@ -24,17 +24,16 @@ use Rattle.room.specs.declared.Focus.TheVariants.{Node, Value as Word, Thrown}
 use Rattle.room.specs.Room.{frame_at, search_word, store_of, word, frame, frames}
 use Rattle.room.specs.RoomLaws.{store_at}
 use Rattle.room.specs.Nodes.{length_frames}
-use Rattle.room.specs.Turn.{focus_of, FocusOk}
+use Rattle.room.specs.Turn.{focus_of}
 use Rattle.pause.specs.Route.{stands, Found, route}
 use Rattle.pause.specs.declared.Record.{Record}
 use Rattle.pause.specs.Layout.{here_words, frame_words, frame_word, room_word, room_of, around, record_of, frames_in, focus_in, level_in, focus_at, state_in}
-use Rattle.room.specs.Rest.{resting}
-use Rattle.pause.specs.Paused.{is_word, held_holds, frame_fits, frame_holds, focus_holds, node_in, paused}
+use Rattle.pause.specs.Paused.{is_word, held_holds, frame_fits, frame_holds, focus_holds, resting, node_in, paused}
 use Rattle.pause.specs.Over.{AllUnder, At, Over}
 use Rattle.pause.specs.PausedLaws.{not_both, Parts, parts}
 use Rattle.pause.specs.WordLaws.{word_back, word_proper, held_back, held_proper}
 use Rattle.pause.specs.FrameLaws.{frame_from_lem, holds_parts, fits_under, holds_words}
-use Rattle.pause.specs.RestLaws.{here_of, found_in, leaf_node, routed}
+use Rattle.pause.specs.RestLaws.{here_of, found_in, FocusFits, leaf_node, routed}
 
 pub frame_word_none : (ws : List ℕ) (Fs : List Frame) (i k : ℕ) → length Fs ≤ i → frame_word ws Fs i k ≡ 0
 unfolding frame_word
@@ -102,7 +101,7 @@ module _ (ws : List ℕ) (good : (n : ℕ) → n < node_count ws → node_holds 
 
     -- what words 65 to 67 say
     record Head : Type 0 where
-      fits : FocusOk ws g
+      fits : FocusFits ws g
       words : (q : ℕ) → q < 16 → get_or (0 ∷ here_words (here_of ws g)) q 0 ≡ get_or room (search_word + q) 0
       same : r ≡ record_of ws r.steps (found_in ws room l g)
 
@@ -188,7 +187,7 @@ unfolding store_of
 store_beyond room x h = rw (le-ltb x variables h)
 
 module _ (ws : List ℕ) (good : (n : ℕ) → n < node_count ws → node_holds ws n ≡ true) (room : List ℕ) where
-  active_at : (l : ℕ) (g : Focus) → FocusOk ws g → resting ws room l g ≡ true → At ws (here_of ws g) (frames ws room l)
+  active_at : (l : ℕ) (g : Focus) → FocusFits ws g → resting ws room l g ≡ true → At ws (here_of ws g) (frames ws room l)
   unfolding resting
   active_at l (Node n) h r = let f = leaf_node ws good n h r in rw f.at (h, r, refl)
   active_at zero (Word w) h r = not_both (sym r)
@@ -198,7 +197,7 @@ module _ (ws : List ℕ) (good : (n : ℕ) → n < node_count ws → node_holds 
 
   -- a room at rest holds an expression over the image
   pub over_found : (l : ℕ) (g : Focus) → ((i : ℕ) → i < l → frame_fits ws (word ws room i) ≡ true)
-      → ((x : ℕ) → x < variables → held_holds (get_or room x 0) ≡ true) → FocusOk ws g → resting ws room l g ≡ true
+      → ((x : ℕ) → x < variables → held_holds (get_or room x 0) ≡ true) → FocusFits ws g → resting ws room l g ≡ true
       → Over ws (found_in ws room l g)
   over_found l g fit vars h r =
       record {

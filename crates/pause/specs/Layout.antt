@@ -16,8 +16,8 @@ use Rattle.image.specs.Nodes.{node_word}
 use Rattle.rules.specs.Maps.{tabulate}
 use Rattle.rules.specs.Trees.{Expr, place}
 use Rattle.rules.specs.Program.{program}
-use Rattle.rules.specs.Heap.{heap_of}
-use Rattle.rules.specs.Run.{State}
+use Rattle.rules.specs.Heap.{Heap, heap_of}
+use Rattle.rules.specs.Step.{Store}
 use Rattle.laws.specs.Frames.{Frame, cast_f, add_l, add_r, eqL, eqR, assign_f, get_f, put_l, put_r, call_l, call_r, block_f, seq_f, ite_f, throw_f, try_f}
 use Rattle.room.specs.declared.Focus.{Focus}
 use Rattle.room.specs.declared.Focus.TheVariants.{Node, Value as Word, Thrown}
@@ -26,9 +26,10 @@ use Rattle.room.specs.Turn.{whole, outside}
 use Rattle.pause.specs.declared.Record.{Record}
 use Rattle.pause.specs.Route.{Here, leaf, came, flew, Found}
 
--- no run
-abbrev pub cleared : Record
-cleared = record { steps = 0; node = 0; levels = 0 }
+pub record State : Type 0 where
+  pub heap : Heap
+  pub store : Store
+  pub expr : Expr
 
 unfoldable pub held_word : Option Value → ℕ
 held_word none = 0

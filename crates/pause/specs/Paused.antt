@@ -1,5 +1,5 @@
 -- WHICH ROOMS AND RECORDS ARE A PAUSED RUN'S: what number 21 asks, by words.
-use Rattle.std.specs.Prelude.{Bool, true, false, not, ◌&&◌, ◌||◌, List, ℕ, zero, suc, ◌+◌, ◌-◌, ◌^◌, eqb, ltb, leb, length, get_or}
+use Rattle.std.specs.Prelude.{Bool, true, false, not, ◌&&◌, ◌||◌, List, ℕ, zero, suc, ◌+◌, ◌-◌, eqb, ltb, leb, length, get_or}
 use Rattle.std.proofs.Math.Option.{Option, none, some}
 use Rattle.words.specs.Value.{addresses, value_of, is_is}
 use Rattle.words.specs.Types.{is_declared}
@@ -11,8 +11,9 @@ use Rattle.image.specs.Nodes.{node_word, kind_of}
 use Rattle.laws.specs.Values.{value_at}
 use Rattle.room.specs.declared.Focus.{Focus}
 use Rattle.room.specs.declared.Focus.TheVariants.{Node, Value as Word, Thrown}
-use Rattle.room.specs.Room.{search_word, frame_at, Shape, first, second, operands, block, test, loop, nothing, shape_of, word, makes_block}
-use Rattle.room.specs.Rest.{resting}
+use Rattle.room.specs.Room.{search_word, frame_at, Shape, first, second, operands, block, test, loop, nothing, shape_of, word, tag}
+use Rattle.room.specs.Armed.{armed_seq}
+use Rattle.pause.specs.Route.{address_of}
 use Rattle.pause.specs.declared.Record.{Record}
 use Rattle.pause.specs.Layout.{level_in, focus_at}
 
@@ -32,6 +33,38 @@ is_word w = is_is (value_of w)
 unfoldable pub held_holds : ℕ → Bool
 held_holds zero = true
 held_holds (suc w) = is_word w
+
+abbrev pub is_none : {A : Type 0} → Option A → Bool
+is_none none = true
+is_none (some a) = false
+
+-- the kinds that step as they stand: New, Var, While
+unfoldable pub steps_alone : ℕ → Bool
+steps_alone kind = eqb kind 0 || eqb kind 3 || eqb kind 13
+
+-- the kinds that make blocks: Call, Block, Try
+unfoldable pub makes_block : ℕ → Bool
+makes_block kind = eqb kind 9 || eqb kind 10 || eqb kind 15
+
+-- whether a node whose first operand is a value is at rest; a Throw is not if it is an address, an assignment if a block takes it up
+unfoldable pub rests_first : Kind → (plain : Bool) → (taken : Bool) → Bool
+rests_first New plain taken = false
+rests_first Cast plain taken = true
+rests_first Literal plain taken = false
+rests_first Var plain taken = false
+rests_first Add plain taken = false
+rests_first Eq plain taken = false
+rests_first Assign plain taken = not taken
+rests_first Get plain taken = true
+rests_first Set plain taken = false
+rests_first Call plain taken = false
+rests_first Block plain taken = false
+rests_first Seq plain taken = true
+rests_first If plain taken = true
+rests_first While plain taken = false
+rests_first Throw plain taken = plain
+rests_first Try plain taken = true
+rests_first Unknown plain taken = false
 
 -- whether a frame of a shape, whose third word is a, uses word k
 unfoldable pub used : Shape → (a k : ℕ) → Bool
@@ -74,6 +107,25 @@ module _ (ws : List ℕ) where
   focus_holds (suc (suc (suc (suc how)))) a b = false
 
   module _ (room : List ℕ) where
+    -- a value w has come to frame i, which is of that shape
+    unfoldable pub rests_in : Shape → (i w : ℕ) → Bool
+    rests_in first i w =
+        rests_first (kind_of (tag ws room i)) (is_none (address_of (value_at w))) (armed_seq ws room i (node_word ws (word ws room i 1) 2))
+    rests_in second i w = true
+    rests_in operands i w = eqb (word ws room i 2) (node_word ws (word ws room i 1) 3)
+    rests_in block i w = true
+    rests_in test i w = true
+    rests_in loop i w = true
+    rests_in nothing i w = false
+
+    -- ALL MOVES ARE MADE: the active place is about to step, under l frames.
+    unfoldable pub resting : (l : ℕ) → Focus → Bool
+    resting l (Node n) = steps_alone (node_word ws n 0)
+    resting zero (Word w) = false
+    resting (suc i) (Word w) = rests_in (shape_of (tag ws room i)) i w
+    resting zero (Thrown a p) = false
+    resting (suc i) (Thrown a p) = true
+
     -- the node that the record must name
     unfoldable pub node_in : (l : ℕ) → Focus → ℕ
     node_in l (Node n) = n
@@ -90,14 +142,10 @@ module _ (ws : List ℕ) where
         && blank (λ j. get_or room j 0) 68 12
         && every (λ i. frame_holds (word ws room i)) (level_in room r)
         && blank (λ j. get_or room j 0) (frame_at (level_in room r)) (length room - frame_at (level_in room r))
-        && resting ws room (level_in room r) (focus_at room r)
+        && resting (level_in room r) (focus_at room r)
         && eqb r.node (node_in (level_in room r) (focus_at room r))
 
 -- a room and a record that start a run: all 0
 unfoldable pub fresh : (room : List ℕ) → Record → Bool
 fresh room r =
     every (λ j. eqb (get_or room j 0) 0) (length room) && eqb r.steps 0 && eqb r.node 0 && eqb r.levels 0
-
--- THERE IS A RUN TO GO ON WITH, for so many steps more: their sum with those that were taken is below 2^64.
-unfoldable pub goes : (ws room : List ℕ) → Record → (steps : ℕ) → Bool
-goes ws room r steps = paused ws room r && ltb (r.steps + steps) (2 ^ 64)

@@ -11,8 +11,7 @@ use Rattle.image.specs.Numbers.{variables}
 use Rattle.room.specs.Room.{search_word, frame_at, word}
 use Rattle.pause.specs.declared.Record.{Record}
 use Rattle.pause.specs.Layout.{level_in, focus_at}
-use Rattle.room.specs.Rest.{resting}
-use Rattle.pause.specs.Paused.{every, blank, held_holds, frame_holds, focus_holds, node_in, paused, fresh}
+use Rattle.pause.specs.Paused.{every, blank, held_holds, frame_holds, focus_holds, resting, node_in, paused, fresh}
 
 pub not_both : {A : Type 0} → ◌≡◌ {A = Bool} true false → A
 not_both e = absurd (let z : ◌≡◌ {A = ℕ} 0 1 = cc in omega arith)

@@ -8,15 +8,15 @@ use Rattle.rules.specs.Heap.{heap_of}
 use Rattle.rules.specs.Step.{Store}
 use Rattle.room.specs.declared.Focus.{Focus}
 use Rattle.room.specs.Room.{frame_at}
-use Rattle.room.specs.Turn.{whole, outside, Inv, FocusOk}
+use Rattle.room.specs.Turn.{whole, outside, Inv}
 use Rattle.pause.specs.Route.{route}
 use Rattle.pause.specs.declared.Record.{Record}
 use Rattle.pause.specs.Layout.{room_of, record_of, level_in, focus_at, state_in}
-use Rattle.room.specs.Rest.{resting}
-use Rattle.pause.specs.Paused.{paused, fresh}
+use Rattle.pause.specs.Paused.{resting, paused, fresh}
 use Rattle.pause.specs.Over.{Over}
 use Rattle.pause.specs.Keep.{kept_room, kept_record}
 use Rattle.pause.specs.PausedLaws as P
+use Rattle.pause.specs.RestLaws.{FocusFits}
 use Rattle.pause.specs.LaidLaws as L
 use Rattle.pause.specs.LaidBack as B
 use Rattle.pause.specs.Going as G
@@ -67,10 +67,11 @@ module _ (ws : List ℕ) (good : (n : ℕ) → n < node_count ws → node_holds 
   goes_on room D r h low long = G.goes_on ws good room D r h low long
 
   -- and its room at rest becomes the layout of what it holds when the words that are not used are made 0.
-  pub pauses : (room : List ℕ) (D steps l : ℕ) (g : Focus) → Inv ws D room l g → resting ws room l g ≡ true
+  pub pauses : (room : List ℕ) (D steps l : ℕ) (g : Focus) → Inv ws D room l g → ((i : ℕ) → i < l → G.BlockOk ws room i) → FocusFits ws g
+      → resting ws room l g ≡ true
       → LayoutOf ws (kept_room ws room l g) (kept_record ws room l g steps) (whole ws room l g) (outside ws room l)
-  pauses room D steps l g inv r =
-      let k = (G.pauses ws good room D steps l g inv r).reads in
+  pauses room D steps l g inv blocks h r =
+      let k = (G.pauses ws good room D steps l g inv blocks h r).reads in
       rw (k.state []) at (laid [] (kept_room ws room l g) (kept_record ws room l g steps) k.passes)
 
   -- Where no step was taken, that is the room and the record as they were.

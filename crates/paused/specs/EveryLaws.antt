@@ -8,6 +8,7 @@ use Rattle.std.proofs.Math.Dec.{eqb}
 use Rattle.std.specs.Int.Bits.{bit_or, or_add_and}
 use Rattle.std.proofs.lemmas.Nat.{and_le_l, and_le_r}
 use Rattle.std.proofs.lemmas.Bool.{eqb-false}
+use Rattle.image.specs.Laws.{and_left, and_right}
 use Rattle.pause.specs.declared.Record.{Record}
 use Rattle.pause.specs.Paused.{every, blank, fresh}
 use Rattle.pause.specs.PausedLaws.{not_both, every_true}
@@ -17,15 +18,7 @@ pub is_false : (t : Bool) → (t ≡ true → ⊥) → false ≡ t
 is_false true h = absurd (h refl)
 is_false false h = refl
 
--- tests that are joined
-pub ands : {a b c d : Bool} → a ≡ b → c ≡ d → (a && c) ≡ (b && d)
-ands e f = cc
-
--- None, one place more,
-pub every_start : (f : ℕ → Bool) → every f 0 ≡ true
-unfolding every
-every_start f = refl
-
+-- One place more,
 pub every_on : (f : ℕ → Bool) (k : ℕ) → every f k ≡ true → f k ≡ true → every f (k + 1) ≡ true
 unfolding every
 every_on f k h e = rw (add-one k, h, e)

@@ -1,6 +1,6 @@
 -- Demand 3 for programs: three answers, whoever gave them, that meet the promises of check, conform and run. The statement comes first.
-use Rattle.std.specs.Prelude.{ℕ, zero, suc, ◌≤◌, ◌≡◌, refl, Bool, true, List, [], ◌∷◌, length}
-use Rattle.std.proofs.Common.{sym, ◌∙◌, ap, arith, le-leb}
+use Rattle.std.specs.Prelude.{ℕ, zero, suc, ◌≤◌, ◌≡◌, refl, Bool, true, List, [], ◌∷◌, length, replicate}
+use Rattle.std.proofs.Common.{sym, ◌∙◌, ap, le-leb}
 use Rattle.std.proofs.Math.Option.{Option, some, some-injective}
 use Rattle.order.specs.declared.Answer.{Answer}
 use Rattle.order.specs.Rules.{answer_of, accepted}
@@ -10,7 +10,6 @@ use Rattle.rules.specs.declared.End.{End}
 use Rattle.rules.specs.declared.End.TheVariants.{Returned, Threw, OutOfSteps, TooDeep, Stuck}
 use Rattle.rules.specs.Program.{program, main, main_env}
 use Rattle.rules.specs.Typing.{ok, typing}
-use Rattle.rules.specs.Run.{Ended, run_of, heap_after}
 use Rattle.rules.specs.Numbers.{most_depth, room_words, depth_rule, room_rule, check_rules, conform_rules, run_rules, end_numbers, end_value}
 use Rattle.safety.specs.Sets.{no_one}
 use Rattle.safety.specs.Image.{Held, held_answer, held_join, rules_held}
@@ -22,14 +21,9 @@ use Rattle.image_check.specs.Answers.{checked_numbers}
 use Rattle.conform.specs.declared.Conformed.{Conformed}
 use Rattle.conform.specs.declared.Conformed.TheVariants.{Accepted as StartAccepted}
 use Rattle.conform.specs.Answers.{conformed_numbers}
-use Rattle.pause.specs.declared.Record.{Record}
-use Rattle.pause.specs.Layout.{cleared}
-use Rattle.pause.specs.Paused.{fresh}
-use Rattle.refusals.specs.Asked.{asked_rules}
-use Rattle.run.specs.declared.Went.{Went}
 use Rattle.run.specs.declared.Ran.{Ran}
 use Rattle.run.specs.declared.Ran.TheVariants.{Refused, Ended as Over}
-use Rattle.run.specs.Answers.{ran_numbers, told_of, came, Leaves, AnswersBy, Answers}
+use Rattle.run.specs.Answers.{ran_numbers, told_of, Answers}
 use Rattle.refusals.specs.JudgedLaws.{depth_fine}
 use Rattle.run.specs.Promise.{never_accepted, count_within}
 
@@ -40,27 +34,25 @@ pub record LetIn (ws hs is : List ℕ) (check : Checked) (conform : Conformed) :
   pub check_accepts : check ≡ ImageAccepted
   pub conform_accepts : conform ≡ StartAccepted
 
--- A run starts: the room is all 0, the depth limit is one that may be asked for, and the room is enough for it.
+-- The depth limit is one that may be asked for, and enough room is lent for it.
 pub record Enough (lent : List ℕ) (depth : ℕ) : Type 0 where
-  pub blank : fresh lent cleared ≡ true
   pub least : 1 ≤ depth
   pub most : depth ≤ most_depth
   pub room : room_words depth ≤ length lent
 
--- What an answer to a run of at most so many steps from its start on comes to, when main has type t.
-pub record SafeAnswer (ws hs is lent : List ℕ) (t : Ty) (steps depth : ℕ) (w : Went) (heap' room' : List ℕ) : Type 0 where
+-- What an answer to a run comes to, when main has type t.
+pub record SafeAnswer (ws lent : List ℕ) (t : Ty) (steps : ℕ) (r : Ran) (heap' room' : List ℕ) : Type 0 where
   pub end : End
   pub count : ℕ
   -- the run is not refused
-  pub ended : w.ran ≡ Over end count
+  pub ended : r ≡ Over end count
   -- a value of type t, the address of an object, or a limit: never stuck; and heap' conforms again
   pub answered : Answered ws t (end_numbers end) (end_word (end_value end)) heap'
   pub within : count ≤ steps
-  -- out of steps the run stays in room and record; else they are all 0
-  pub leaves : Leaves ws hs is lent cleared steps depth end count heap' room' w.kept
+  pub cleared : room' ≡ replicate (length lent) 0
 
 -- When both checks let them in, main has a type, and every answer that keeps a run's promise is safe at that type, whatever the step
--- limit is.
+-- limit is, and whatever words are lent, if they are enough for the depth limit.
 abbrev pub Demand3 : Type 0
 Demand3 =
     (ws hs is : List ℕ) (check : Checked) (conform : Conformed)
@@ -69,12 +61,12 @@ Demand3 =
     × (typing (program ws) (main ws) (main_env ws) ≡ ok t)
     × ((lent : List ℕ) (steps depth : ℕ)
     → Enough lent depth
-    → (w : Went) (heap' room' : List ℕ)
-    → Answers ws hs is lent cleared steps depth w heap' room'
-    → SafeAnswer ws hs is lent t steps depth w heap' room')
+    → (r : Ran) (heap' room' : List ℕ)
+    → Answers ws hs is lent steps depth r heap' room'
+    → SafeAnswer ws lent t steps r heap' room')
 
 -- THE PROOF
-pub one_held : (n : ℕ) (b : Bool) → b ≡ true → Held (tested n (b ∷ []))
+one_held : (n : ℕ) (b : Bool) → b ≡ true → Held (tested n (b ∷ []))
 unfolding tested
 one_held n b e zero l = e
 one_held n b e (suc p) l = refl
@@ -94,19 +86,10 @@ module _ (ws hs is : List ℕ) (checked : answer_of (check_rules ws) ≡ accepte
   module _ (t : Ty) (lent : List ℕ) (steps depth : ℕ) (n : Enough lent depth)
       (safe : (end : Answer) (word : Option ℕ) (heap : List ℕ) → RunAnswer ws hs is steps depth end word heap
       → Answered ws t end word heap) where
-    -- a run that starts asks the rules of a start, and comes to what run_of says
-    asked : answer_of (asked_rules ws hs is lent cleared steps depth) ≡ accepted
-    unfolding asked_rules
-    asked = rw n.blank (no_breach lent depth n)
-
-    starts : came ws hs is lent cleared steps depth ≡ run_of ws hs is steps depth
-    unfolding run_of
-    starts = rw n.blank
-
-    safe_ran : (r : Ran) (kept' : Record) (heap' room' : List ℕ) → AnswersBy ws hs is lent cleared steps depth r kept' heap' room'
-        → SafeAnswer ws hs is lent t steps depth (record { ran = r; kept = kept' }) heap' room'
-    safe_ran (Refused f) kept' heap' room' a = absurd (never_accepted f (ap (λ (b : Answer). b.number) (a.numbers ∙ asked)))
-    safe_ran (Over e k) kept' heap' room' a =
+    safe_answer : (r : Ran) (heap' room' : List ℕ) → Answers ws hs is lent steps depth r heap' room' → SafeAnswer ws lent t steps r heap' room'
+    safe_answer (Refused f) heap' room' a =
+        absurd (never_accepted f (ap (λ (b : Answer). b.number) (a.numbers ∙ no_breach lent depth n)))
+    safe_answer (Over e k) heap' room' a =
         record {
           end = e;
           count = k;
@@ -114,17 +97,13 @@ module _ (ws hs is : List ℕ) (checked : answer_of (check_rules ws) ≡ accepte
           answered =
               safe (end_numbers e) (end_word (end_value e)) heap'
               (record {
-                end_is = ap end_numbers (a.end ∙ ap (λ (c : Ended). c.end) starts);
-                word_is = ap (λ (d : End). end_word (end_value d)) (a.end ∙ ap (λ (c : Ended). c.end) starts);
-                heap_is = a.heap ∙ ap heap_after starts;
+                end_is = ap end_numbers a.end;
+                word_is = ap (λ (d : End). end_word (end_value d)) a.end;
+                heap_is = a.heap;
               });
-          within = omega (arith, count_within ws hs is lent cleared steps depth e k heap' room' kept' a);
-          leaves = a.leaves;
+          within = count_within ws hs is lent steps depth e k heap' room' a;
+          cleared = a.room;
         }
-
-    safe_answer : (w : Went) (heap' room' : List ℕ) → Answers ws hs is lent cleared steps depth w heap' room'
-        → SafeAnswer ws hs is lent t steps depth w heap' room'
-    safe_answer w heap' room' a = safe_ran w.ran w.kept heap' room' a
 
 pub demand_3 : Demand3
 demand_3 ws hs is check conform l =
@@ -137,8 +116,8 @@ demand_3 ws hs is check conform l =
     )
 
 -- In particular its number is not 34.
-pub never_stuck : {ws hs is lent : List ℕ} {t : Ty} {steps depth : ℕ} {w : Went} {heap' room' : List ℕ}
-    → SafeAnswer ws hs is lent t steps depth w heap' room' → (ran_numbers w.ran).number ≡ 34 → ⊥
+pub never_stuck : {ws lent : List ℕ} {t : Ty} {steps : ℕ} {r : Ran} {heap' room' : List ℕ}
+    → SafeAnswer ws lent t steps r heap' room' → (ran_numbers r).number ≡ 34 → ⊥
 never_stuck s e = not_stuck s.answered.told (rw s.ended at e)
 
 -- The word that an end carries is the one that a caller gets with the answer's numbers.

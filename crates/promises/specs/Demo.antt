@@ -4,7 +4,6 @@ use Rattle.std.specs.Prelude.{ℕ, ◌≡◌, refl, List, [], ◌∷◌, ◌++�
 use Rattle.std.proofs.Common.{sym, ◌∙◌, arith}
 use Rattle.words.specs.declared.Value.TheVariants.{Intg}
 use Rattle.words.specs.declared.Ty.TheVariants.{Integer}
-use Rattle.rules.specs.declared.End.{End}
 use Rattle.rules.specs.declared.End.TheVariants.{Returned}
 use Rattle.rules.specs.Program.{program, main, main_env}
 use Rattle.rules.specs.Typing.{ok, typing}
@@ -14,9 +13,7 @@ use Rattle.figures.specs.Agreement.{ok_inj}
 use Rattle.safety.specs.Demo.{Accepts, bench_image, bench, orders, objects, inputs, hierarchy}
 use Rattle.image_check.specs.declared.Checked.TheVariants.{Accepted as ImageAccepted}
 use Rattle.conform.specs.declared.Conformed.TheVariants.{Accepted as StartAccepted}
-use Rattle.pause.specs.Layout.{cleared}
-use Rattle.pause.specs.Paused.{every, fresh}
-use Rattle.refusals.specs.Asked.{asked_rules}
+use Rattle.run.specs.declared.Ran.{Ran}
 use Rattle.run.specs.declared.Ran.TheVariants.{Ended as Over}
 use Rattle.run.specs.Answers.{Answers}
 use Rattle.promises.specs.Demand3.{LetIn, Enough, SafeAnswer, demand_3}
@@ -26,8 +23,7 @@ abbrev pub lent : List ℕ
 lent = replicate 288 0
 
 pub enough : Enough lent 8
-unfolding fresh every
-enough = record { blank = refl; least = omega arith; most = omega arith; room = omega arith }
+enough = record { least = omega arith; most = omega arith; room = omega arith }
 
 pub let_in : {ws hs is : List ℕ} → Accepts ws hs is → LetIn ws hs is ImageAccepted StartAccepted
 let_in a =
@@ -39,18 +35,18 @@ let_in a =
     }
 
 -- an answer to a run of at most 100 steps in that room, and what demand 3 says of it when main is an Integer
-abbrev pub Given : (ws hs is : List ℕ) → End → (count : ℕ) → (left : List ℕ) → Type 0
-Given ws hs is e count left = Answers ws hs is lent cleared 100 8 (record { ran = Over e count; kept = cleared }) left lent
+abbrev pub Given : (ws hs is : List ℕ) → Ran → (left : List ℕ) → Type 0
+Given ws hs is r left = Answers ws hs is lent 100 8 r left lent
 
-abbrev pub Safe : (ws hs is : List ℕ) → End → (count : ℕ) → (left : List ℕ) → Type 0
-Safe ws hs is e count left = SafeAnswer ws hs is lent Integer 100 8 (record { ran = Over e count; kept = cleared }) left lent
+abbrev pub Safe : (ws : List ℕ) → Ran → (left : List ℕ) → Type 0
+Safe ws r left = SafeAnswer ws lent Integer 100 r left lent
 
 given_safe : (ws hs is : List ℕ) → Accepts ws hs is → typing (program ws) (main ws) (main_env ws) ≡ ok Integer
-    → (e : End) (count : ℕ) (left : List ℕ) → Given ws hs is e count left → Safe ws hs is e count left
-given_safe ws hs is a m e count left g =
+    → (r : Ran) (left : List ℕ) → Given ws hs is r left → Safe ws r left
+given_safe ws hs is a m r left g =
     let s = demand_3 ws hs is ImageAccepted StartAccepted (let_in a) in
-    let i : s.0 ≡ Integer = ok_inj (sym s.1 ∙ m) in
-    rw i at (s.2 lent 100 8 enough (record { ran = Over e count; kept = cleared }) left lent g)
+    let e : s.0 ≡ Integer = ok_inj (sym s.1 ∙ m) in
+    rw e at (s.2 lent 100 8 enough r left lent g)
 
 -- The bench program ends with the value 0 after 5 steps; the free slot has the new object.
 unfoldable pub bench_left : List ℕ
@@ -60,12 +56,12 @@ bench_type : typing (program bench_image) (main bench_image) (main_env bench_ima
 unfolding computing image bench_image
 bench_type = refl
 
-pub bench_given : Given bench_image (heap 1) [] (Returned (Intg 0)) 5 bench_left
-unfolding computing image heap bench_image bench_left asked_rules fresh every
-bench_given = record { sound = refl; end = refl; count = refl; heap = refl; leaves = record { room = refl; record_cleared = refl } }
+pub bench_given : Given bench_image (heap 1) [] (Over (Returned (Intg 0)) 5) bench_left
+unfolding computing image heap bench_image bench_left
+bench_given = record { sound = refl; end = refl; count = refl; heap = refl; room = refl }
 
-pub bench_safe : Safe bench_image (heap 1) [] (Returned (Intg 0)) 5 bench_left
-bench_safe = given_safe bench_image (heap 1) [] bench bench_type (Returned (Intg 0)) 5 bench_left bench_given
+pub bench_safe : Safe bench_image (Over (Returned (Intg 0)) 5) bench_left
+bench_safe = given_safe bench_image (heap 1) [] bench bench_type (Over (Returned (Intg 0)) 5) bench_left bench_given
 
 -- The other ends with 42 after 11 steps, what the handler makes of the object caught; the free slot has the argument.
 unfoldable pub objects_left : List ℕ
@@ -76,9 +72,9 @@ orders_type : typing (program orders) (main orders) (main_env orders) ≡ ok Int
 unfolding computing orders
 orders_type = refl
 
-pub hierarchy_given : Given orders objects inputs (Returned (Intg 42)) 11 objects_left
-unfolding computing heap orders objects inputs objects_left asked_rules fresh every
-hierarchy_given = record { sound = refl; end = refl; count = refl; heap = refl; leaves = record { room = refl; record_cleared = refl } }
+pub hierarchy_given : Given orders objects inputs (Over (Returned (Intg 42)) 11) objects_left
+unfolding computing heap orders objects inputs objects_left
+hierarchy_given = record { sound = refl; end = refl; count = refl; heap = refl; room = refl }
 
-pub hierarchy_safe : Safe orders objects inputs (Returned (Intg 42)) 11 objects_left
-hierarchy_safe = given_safe orders objects inputs hierarchy orders_type (Returned (Intg 42)) 11 objects_left hierarchy_given
+pub hierarchy_safe : Safe orders (Over (Returned (Intg 42)) 11) objects_left
+hierarchy_safe = given_safe orders objects inputs hierarchy orders_type (Over (Returned (Intg 42)) 11) objects_left hierarchy_given

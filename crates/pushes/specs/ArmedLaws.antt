@@ -12,7 +12,7 @@ use Rattle.room.specs.declared.Focus.TheVariants.{Node}
 use Rattle.room.specs.Room.{tag, word, Fit}
 use Rattle.room.specs.Turn.{Inv, Moves}
 use Rattle.room.specs.Nodes.{assign_local}
-use Rattle.room.specs.Rest.{armed, armed_seq}
+use Rattle.room.specs.Armed.{armed, armed_seq}
 use Rattle.pushes.specs.Turns.{rest_of}
 use Rattle.pushes.specs.TakeUp.{rest_place, takes_rest, assign_writes}
 

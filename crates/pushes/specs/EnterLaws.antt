@@ -1,15 +1,11 @@
 -- Laws of nodes that are gone into: which operands they have, and turns as the functions promise them.
-use Rattle.std.specs.Prelude.{◌≡◌, refl, List, Bool, true, false, ℕ, suc, ◌<◌}
-use Rattle.std.proofs.Common.{sym, ◌∙◌, arith}
+use Rattle.std.specs.Prelude.{◌≡◌, List, true, ℕ, suc, ◌<◌}
+use Rattle.std.proofs.Common.{arith}
 use Rattle.image.specs.declared.Layout.{Layout}
 use Rattle.image.specs.Trailer.{node_count}
 use Rattle.image.specs.Nodes.{node_word, kind_of, operands, node_holds}
 use Rattle.image.specs.Layout.{Good}
 use Rattle.laws.specs.Trees.{operand_count, operand_below}
-use Rattle.room.specs.declared.Focus.{Focus}
-use Rattle.room.specs.declared.Go.TheVariants.{Stepped, Limit}
-use Rattle.room.specs.Rest.{resting}
-use Rattle.room.specs.Turn.{Turned, Steps, Could}
 
 -- a number below the layout's count is a node
 pub in_table : {ws : List ℕ} {lay : Layout} {n : ℕ} → Good ws lay → n < lay.node_count → n < node_count ws
@@ -46,23 +42,3 @@ module _ (ws : List ℕ) (n : ℕ) where
   -- a node with an operand is not the table's first
   pub not_first : node_holds ws n ≡ true → 0 < operand_count ws n → 0 < n
   not_first h o = omega (arith, operand_below ws n h 0 o)
-
--- A step by the leave to take it.
-module _ {ws : List ℕ} {D : ℕ} {may : Bool} {hs room : List ℕ} {l : ℕ} {f : Focus} where
-  -- one that writes nothing,
-  pub still : {l' : ℕ} {g : Focus} → Steps ws D hs room l f hs room l' g → resting ws room l f ≡ true
-      → Turned ws D may hs room l f hs room (Stepped g l')
-  still s r = (s, λ e. (refl, (refl, r)))
-
-  -- one that is taken with leave,
-  pub allowed : {hs' room' : List ℕ} {l' : ℕ} {g : Focus} → Steps ws D hs room l f hs' room' l' g → may ≡ true
-      → Turned ws D may hs room l f hs' room' (Stepped g l')
-  allowed s m = (s, λ e. absurd (let z : ◌≡◌ {A = Bool} true false = sym m ∙ e in let y : ◌≡◌ {A = ℕ} 0 1 = cc in omega arith))
-
-  -- and one that could be taken
-  pub refused : Could ws D hs room l f → may ≡ false → resting ws room l f ≡ true → Turned ws D may hs room l f hs room Limit
-  refused s m r = (s, m, refl, (refl, r))
-
-pub could : {ws : List ℕ} {D : ℕ} {hs room : List ℕ} {l : ℕ} {f : Focus} {hs' room' : List ℕ} {l' : ℕ} {g : Focus}
-    → Steps ws D hs room l f hs' room' l' g → Could ws D hs room l f
-could s = record { heap = _; store = _; expr = _; goes = s.goes }

@@ -16,8 +16,7 @@ use Rattle.room.specs.declared.Focus.{Focus}
 use Rattle.room.specs.declared.Focus.TheVariants.{Node}
 use Rattle.room.specs.Room.{shape_of, loaded, operand_of, word, tag, frame, frames, Fit}
 use Rattle.room.specs.Turn.{focus_of, weight, behind, pending, Inv, Moves}
-use Rattle.room.specs.Rest.{armed, armed_seq}
-use Rattle.room.specs.Armed.{frame_seq, frame_loop, Takes, armed_block, armed_seq_frames, takes_up}
+use Rattle.room.specs.Armed.{armed, armed_seq, frame_seq, frame_loop, Takes, armed_block, armed_seq_frames, takes_up}
 use Rattle.pushes.specs.Turns.{rest_of, Writes}
 use Rattle.pushes.specs.EnterLaws.{seq_operand, while_operand, not_first}
 

@@ -15,12 +15,6 @@ Turns ws room l f room' met r =
     (D : ℕ) (hs : List ℕ) (may : Bool) → Inv ws D room l f → met D → HeapOk ws hs (get_or room search_word 0)
     → Turned ws D may hs room l f hs room' r
 
--- the same, with leave to take a step or without
-abbrev pub TurnsIf : (may : Bool) (ws room : List ℕ) (l : ℕ) (f : Focus) (room' : List ℕ) → (met : ℕ → Type 0) → Go → Type 0
-TurnsIf may ws room l f room' met r =
-    (D : ℕ) (hs : List ℕ) → Inv ws D room l f → met D → HeapOk ws hs (get_or room search_word 0)
-    → Turned ws D may hs room l f hs room' r
-
 -- the limit lets a node under l frames be gone into,
 abbrev pub Within : (l D : ℕ) → Type 0
 Within l D = l ≤ D

@@ -4,7 +4,7 @@ ghost use Rattle.image.specs.Numbers.{variables};
 ghost use Rattle.laws.specs.Values.{IsValue};
 ghost use Rattle.room.specs.Room.{frame_at, first};
 ghost use Rattle.room.specs.RoomLaws.{push, push3, push_block};
-ghost use Rattle.room.specs.Rest.{armed, armed_seq};
+ghost use Rattle.room.specs.Armed.{armed, armed_seq};
 ghost use Rattle.pushes.specs.Turns.{rest_of};
 
 use room::{BLOCK, FRAME_WORDS, FRAMES, LOOP, SEQ};

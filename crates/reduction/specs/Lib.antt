@@ -5,4 +5,3 @@ pub mod Agreement
 pub mod Runs
 pub mod RunLaws
 pub mod Remembering
-pub mod GoOn

@@ -1,5 +1,4 @@
 -- What a run is refused for.
 pub mod Refusals
-pub mod Asked
 pub mod Judged
 pub mod JudgedLaws

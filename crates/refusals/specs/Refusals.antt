@@ -2,7 +2,7 @@
 use Rattle.order.specs.declared.Answer.{Answer}
 use Rattle.image.specs.Layout.{breach_numbers}
 use Rattle.refusals.specs.declared.Refusal.{Refusal}
-use Rattle.refusals.specs.declared.Refusal.TheVariants.{Layout, Fields, HeapLength, HeapWord, Input, Depth, Room, Paused}
+use Rattle.refusals.specs.declared.Refusal.TheVariants.{Layout, Fields, HeapLength, HeapWord, Input, Depth, Room}
 
 abbrev pub refusal_numbers : Refusal → Answer
 refusal_numbers (Layout b) = breach_numbers b
@@ -12,4 +12,3 @@ refusal_numbers (HeapWord p) = record { number = 15; place = p }
 refusal_numbers (Input p) = record { number = 16; place = p }
 refusal_numbers Depth = record { number = 19; place = 0 }
 refusal_numbers Room = record { number = 20; place = 0 }
-refusal_numbers Paused = record { number = 21; place = 0 }

@@ -24,13 +24,23 @@ use Rattle.laws.specs.Maps.{upd_twice}
 use Rattle.laws.specs.Values.{value_at, IsValue}
 use Rattle.laws.specs.Frames.{Frame, block_f, seq_f, assign_f, outer, plugs, outers, plugs_begun}
 use Rattle.room.specs.Room.{search_word, held, store_of, shape_of, begun, halfway, calling, loaded, operand_of, frame_of, word, tag, kept, frame, frames}
-use Rattle.room.specs.Rest.{armed, armed_seq}
 use Rattle.room.specs.RoomLaws.{store_at, set_store, set_frames, set_fit, fit_less}
 use Rattle.room.specs.declared.Focus.{Focus}
 use Rattle.room.specs.declared.Focus.TheVariants.{Node}
 use Rattle.room.specs.Turn.{focus_of, weight, pending, phi, whole, outside, Inv, Moves}
 use Rattle.room.specs.Enter.{pending_same}
 use Rattle.room.specs.Stack.{is_seq_f, block_var, Unarmed, unarmed_other, unarmed_plain, unarmed_set, unarmed_var}
+
+module _ (ws room : List ℕ) where
+  -- under l frames, the innermost being a block of x that is unset
+  unfoldable pub armed : (l x : ℕ) → Bool
+  armed zero x = false
+  armed (suc j) x = eqb (tag ws room j) 10 && eqb (word ws room j 2) x && eqb (get_or room x 0) 0
+
+  -- under l frames, the innermost being a sequence's or a loop's, and the one around it such a block
+  unfoldable pub armed_seq : (l x : ℕ) → Bool
+  armed_seq zero x = false
+  armed_seq (suc i) x = (eqb (tag ws room i) 11 || eqb (tag ws room i) 29) && armed i x
 
 -- a frame of any other tag is no sequence, and of any other tag no block
 tag_other : (ws : List ℕ) (t p a b c : ℕ) (k : ℕ → ℕ) → (t ≡ 11 → ⊥) → (t ≡ 29 → ⊥) → is_seq_f (frame_of ws (shape_of t) t p a b c k) ≡ false

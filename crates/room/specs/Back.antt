@@ -25,12 +25,11 @@ use Rattle.laws.specs.Frames.{Frame, cast_f, add_r, eqR, assign_f, get_f, put_r,
 use Rattle.room.specs.declared.Focus.{Focus}
 use Rattle.room.specs.declared.Focus.TheVariants.{Node, Value as Word, Thrown}
 use Rattle.room.specs.Room.{search_word, frame_at, held, store_of, first, second, test, loop, shape_of, begun, halfway, loaded, operand_of, frame_of, word, tag, kept, frame, frames, IsNode, Held, FrameOk}
-use Rattle.room.specs.RoomLaws.{Kept, kept_refl, kept_set, kept_store, kept_fit, frames_more, fit_place, fit_first, fit_second, fit_call, fit_more, fit_less, set_store, set_frames, set_fit}
+use Rattle.room.specs.RoomLaws.{Kept, kept_refl, kept_set, kept_store, kept_fit, frames_more, fit_first, fit_second, fit_call, fit_more, fit_less, set_store, set_frames, set_fit}
 use Rattle.room.specs.Stack.{Halts, goes_back, halts_back, assign_plain}
 use Rattle.room.specs.Turn.{HeapOk, focus_of, FocusOk, weight, behind, pending, finds, Inv, Moves, Steps}
 use Rattle.room.specs.Enter.{plugs_in, outers_in, pending_kept}
-use Rattle.room.specs.Rest.{armed_seq}
-use Rattle.room.specs.Armed.{armed_seq_not}
+use Rattle.room.specs.Armed.{armed_seq, armed_seq_not}
 use Rattle.room.specs.Nodes.{length_frames, assign_local}
 
 module _ (ws : List ℕ) (good : (n : ℕ) → n < node_count ws → node_holds ws n ≡ true) (D : ℕ) (hs room : List ℕ) (i w : ℕ)
@@ -90,10 +89,10 @@ module _ (ws : List ℕ) (good : (n : ℕ) → n < node_count ws → node_holds 
     unfolding redex focus_of
     redex_gives hs' u e v h = steps_less b p hs' (Word u) (rw e) v h
 
-    pub redex_raises : (a : ℕ) → r ≡ raises a → a < addresses → p < node_count ws → HeapOk ws hs (get_or room search_word 0)
+    pub redex_raises : (a : ℕ) → r ≡ raises a → a < addresses → HeapOk ws hs (get_or room search_word 0)
         → Steps ws D hs room (suc i) (Word w) hs room i (Thrown a p)
     unfolding redex focus_of
-    redex_raises a e v m h = steps_less b p hs (Thrown a p) (rw e) (v, m) h
+    redex_raises a e v h = steps_less b p hs (Thrown a p) (rw e) v h
 
     pub redex_fails : r ≡ fails → Halts D (finds ws hs room (suc i) (Word w)) p
     unfolding redex
@@ -224,7 +223,7 @@ module _ (ws : List ℕ) (good : (n : ℕ) → n < node_count ws → node_holds 
       }
 
   -- what the words of the frame are
-  ok : FrameOk ws (shape_of (tag ws room i)) (tag ws room i) (word ws room i 1) (word ws room i 2) (word ws room i 3) (word ws room i 4) (kept ws room i)
+  ok : FrameOk ws (shape_of (tag ws room i)) (tag ws room i) (word ws room i 1) (word ws room i 2) (word ws room i 4) (kept ws room i)
   ok = inv.fit.frame_ok i (omega arith)
 
   pub is_first : (k : ℕ) → shape_of k ≡ first → tag ws room i ≡ k → IsNode ws (word ws room i 1) k
@@ -244,7 +243,7 @@ module _ (ws : List ℕ) (good : (n : ℕ) → n < node_count ws → node_holds 
 
   pub is_block : tag ws room i ≡ 10 → (word ws room i 2 < variables) × Held ws (word ws room i 4)
   unfolding shape_of
-  is_block t = let o = rw t at ok in (o.0, o.1)
+  is_block t = let o = rw t at ok in o
 
   operand_last : (p : ℕ) → operand ws p 0 ≡ p - 1
   unfolding operand
@@ -385,7 +384,7 @@ module _ (ws : List ℕ) (good : (n : ℕ) → n < node_count ws → node_holds 
   throw_moves a t e m =
       let p = word ws room i 1 in
       record {
-        inv = less (Thrown a p) (m, fit_place inv.fit);
+        inv = less (Thrown a p) m;
         size = refl;
         search = refl;
         same =

@@ -25,7 +25,7 @@ use Rattle.laws.specs.Values.{value_at, IsValue}
 use Rattle.laws.specs.Trees.{operand_count, operand_below, operand_after}
 use Rattle.laws.specs.Frames.{Frame, call_l, call_r, block_f, plug, outer, plugs, outers, operands_of, operands_move, Plain, quiet_plain, value_plain, blocked_some, step_call, step_call_none}
 use Rattle.room.specs.declared.Focus.TheVariants.{Node, Value as Word}
-use Rattle.room.specs.Room.{search_word, most_operands, frame_at, held, store_of, operands as calls, shape_of, calling, loaded, operand_of, frame_of, word, tag, kept, frame, frames, Makes, Fit}
+use Rattle.room.specs.Room.{search_word, most_operands, frame_at, held, store_of, operands as calls, shape_of, calling, loaded, operand_of, frame_of, word, tag, kept, frame, frames, Fit}
 use Rattle.room.specs.RoomLaws.{Kept, kept_refl, kept_set, kept_store, kept_frames, kept_fit, frames_more, fit_more, fit_less, block_in, block_around, push_block, block_size, block_below, block_above, block_fit, block_plugs, block_outers}
 use Rattle.room.specs.Stack.{found, Goes, goes_back, Beyond, beyond_at, busy}
 use Rattle.room.specs.Turn.{HeapOk, focus_of, weight, behind, pending, finds, Inv, Moves, Steps, Sinks}
@@ -303,10 +303,10 @@ module _ (ws base : List ℕ) (i p n : ℕ) (types : ℕ → ℕ) (e : Expr) whe
       }
 
   pub pushing_on : (room : List ℕ) (c : ℕ) → Pushing room c → c < n → n ≤ most_operands → IsValue (word ws base i (5 + c))
-      → frame_at (suc (i + c)) ≤ length room → Makes ws p (types c)
+      → frame_at (suc (i + c)) ≤ length room
       → Pushing (push_block room (i + c) p c (types c) (suc (word ws base i (5 + c)))) (suc c)
   unfolding blocks held
-  pushing_on room c k l m v f made =
+  pushing_on room c k l m v f =
       let x : c < variables = omega arith in
       let w = word ws base i (5 + c) in
       let z : i + suc c ≡ suc (i + c) = omega arith in
@@ -320,7 +320,7 @@ module _ (ws base : List ℕ) (i p n : ℕ) (types : ℕ → ℕ) (e : Expr) whe
       record {
         low = omega arith;
         size = block_size ws room (i + c) p c (types c) (suc w) x f ∙ k.size;
-        fit = rw z (block_fit ws room (i + c) p c (types c) (suc w) x f v made k.fit);
+        fit = rw z (block_fit ws room (i + c) p c (types c) (suc w) x f v k.fit);
         search =
             block_below ws room (i + c) p c (types c) (suc w) x f search_word (omega arith) (λ y. let s : search_word ≡ c = y in omega arith)
             ∙ k.search;

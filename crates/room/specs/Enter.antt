@@ -179,7 +179,7 @@ module _ (ws : List ℕ) (good : (n : ℕ) → n < node_count ws → node_holds 
 
     -- any room that has one frame more, with the node's first operand for its focus
     entered : (new : List ℕ) (j : ℕ) → Kept room new l → suc j ≡ operand_count ws n
-        → FrameOk ws (shape_of (tag ws new l)) (tag ws new l) (word ws new l 1) (word ws new l 2) (word ws new l 3) (word ws new l 4) (kept ws new l)
+        → FrameOk ws (shape_of (tag ws new l)) (tag ws new l) (word ws new l 1) (word ws new l 2) (word ws new l 4) (kept ws new l)
         → plug blocked (frame ws new l) (store_of room) (loaded ws (operand ws n j)) ≡ loaded ws n
         → outer (frame ws new l) (store_of room) ≡ store_of room
         → behind ws (shape_of (tag ws new l)) (tag ws new l) (word ws new l 1) (word ws new l 2) ≡ n - 1 - operand ws n j

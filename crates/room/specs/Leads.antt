@@ -2,14 +2,10 @@
 use Rattle.std.specs.Prelude.{◌≡◌, List, ℕ, ◌+◌, ◌≤◌, ◌<◌, length, get_or}
 use Rattle.rules.specs.Program.{program}
 use Rattle.rules.specs.Heap.{heap_of}
-use Rattle.rules.specs.Run.{run, State, after_steps}
+use Rattle.rules.specs.Run.{run}
 use Rattle.room.specs.declared.Focus.{Focus}
 use Rattle.room.specs.Room.{search_word}
 use Rattle.room.specs.Turn.{HeapOk, phi, whole, outside, Inv}
-
--- what runs there
-abbrev pub state_at : (ws hs room : List ℕ) (l : ℕ) (f : Focus) → State
-state_at ws hs room l f = record { heap = heap_of (program ws) hs; store = outside ws room l; expr = whole ws room l f }
 
 module _ (ws : List ℕ) (D : ℕ) where
   -- In k steps the run comes from one room, level and focus to another, with the heap hs' for hs. Where there is no step, no more is
@@ -21,7 +17,6 @@ module _ (ws : List ℕ) (D : ℕ) where
     pub runs : (m c : ℕ)
         → run D (program ws) (k + m) c (heap_of (program ws) hs) (outside ws room l) (whole ws room l f)
         ≡ run D (program ws) m (k + c) (heap_of (program ws) hs') (outside ws room' l') (whole ws room' l' f')
-    pub comes : after_steps (program ws) k (state_at ws hs room l f) ≡ state_at ws hs' room' l' f'
     pub rests : k ≡ 0 → phi ws room' l' f' ≤ phi ws room l f
 
   -- the same, and something has been done

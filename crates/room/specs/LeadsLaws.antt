@@ -2,17 +2,15 @@
 use Rattle.std.specs.Prelude.{◌≡◌, refl, List, ℕ, zero, suc, ◌+◌, ◌*◌, ◌≤◌, ◌<◌, length, get_or}
 use Rattle.std.proofs.Common.{sym, ◌∙◌, ap, arith}
 use Rattle.rules.specs.Program.{program}
-use Rattle.rules.specs.Heap.{Heap, heap_of}
-use Rattle.rules.specs.Trees.{Expr}
-use Rattle.rules.specs.Step.{Store, Out, step}
-use Rattle.rules.specs.Run.{Ended, run, State, moved, after_steps}
+use Rattle.rules.specs.Heap.{heap_of}
+use Rattle.rules.specs.Run.{Ended, run}
 use Rattle.room.specs.declared.Focus.{Focus}
 use Rattle.room.specs.Room.{search_word, store_of, frames}
 use Rattle.room.specs.RoomLaws.{Kept, kept_fit, kept_frames, kept_store}
 use Rattle.room.specs.Stack.{run_goes}
 use Rattle.room.specs.Enter.{pending_kept}
 use Rattle.room.specs.Turn.{HeapOk, phi, pending, whole, outside, Inv, Moves, Steps}
-use Rattle.room.specs.Leads.{state_at, Leads, Leaps}
+use Rattle.room.specs.Leads.{Leads, Leaps}
 
 zero_plus : (n : ℕ) → 0 + n ≡ n
 zero_plus n = omega arith
@@ -20,28 +18,10 @@ zero_plus n = omega arith
 one_plus : (n : ℕ) → 1 + n ≡ suc n
 one_plus n = omega arith
 
--- steps in a row, one step, and no step
-pub after_on : (P : Rattle.rules.specs.Program.Program) (j k : ℕ) (s : State) → after_steps P (j + k) s ≡ after_steps P k (after_steps P j s)
-unfolding after_steps
-after_on P zero k s = rw (zero_plus k)
-after_on P (suc j) k s =
-    let e : suc j + k ≡ suc (j + k) = omega arith in
-    rw e (after_on P j k (moved s (step P s.expr s.heap s.store)))
-
-after_none : (P : Rattle.rules.specs.Program.Program) (s : State) → after_steps P 0 s ≡ s
-unfolding after_steps
-after_none P s = refl
-
-after_one : (P : Rattle.rules.specs.Program.Program) (s : State) (d q : ℕ) (h : Heap) (l : Store) (e : Expr)
-    → step P s.expr s.heap s.store ≡ Out.next d q h l e
-    → after_steps P 1 s ≡ record { heap = h; store = l; expr = e }
-unfolding after_steps moved
-after_one P s d q h l e i = rw i
-
 module _ (ws : List ℕ) (D : ℕ) where
   pub leads_none : {hs room : List ℕ} {l : ℕ} {f : Focus} → Inv ws D room l f → HeapOk ws hs (get_or room search_word 0)
       → Leads ws D 0 hs room l f hs room l f
-  leads_none v h = record { inv = v; size = refl; heap = h; runs = λ m c. rw (zero_plus m, zero_plus c); comes = after_none (program ws) _; rests = λ e. omega arith }
+  leads_none v h = record { inv = v; size = refl; heap = h; runs = λ m c. rw (zero_plus m, zero_plus c); rests = λ e. omega arith }
 
   pub leaps_move : {hs room : List ℕ} {l : ℕ} {f : Focus} {room' : List ℕ} {l' : ℕ} {f' : Focus}
       → HeapOk ws hs (get_or room search_word 0) → Moves ws D room l f room' l' f' → Leaps ws D 0 hs room l f hs room' l' f'
@@ -53,7 +33,6 @@ module _ (ws : List ℕ) (D : ℕ) where
               size = m.size;
               heap = rw m.search h;
               runs = λ n c. rw (zero_plus n, zero_plus c, m.same, m.around);
-              comes = after_none (program ws) _ ∙ rw (m.same, m.around);
               rests = λ e. omega (arith, m.falls);
             };
         falls = λ e. m.falls;
@@ -73,7 +52,6 @@ module _ (ws : List ℕ) (D : ℕ) where
                   rw (one_plus n, one_plus c)
                   (run_goes (program ws) D (heap_of (program ws) hs) (outside ws room l) (whole ws room l f) n c (heap_of (program ws) hs')
                   (outside ws room' l') (whole ws room' l' f') s.goes);
-              comes = after_one (program ws) (state_at ws hs room l f) s.goes.depth s.goes.place _ _ _ s.goes.next;
               rests = λ e. absurd (omega arith);
             };
         falls = λ e. absurd (omega arith);
@@ -89,7 +67,6 @@ module _ (ws : List ℕ) (D : ℕ) where
           size = b.size ∙ a.size;
           heap = b.heap;
           runs = runs_on;
-          comes = after_on (program ws) j k (state_at ws hs room l f) ∙ rw a.comes b.comes;
           rests = λ e. omega (arith, a.rests (omega arith), b.rests (omega arith));
         }
       where
@@ -134,7 +111,6 @@ module _ (ws : List ℕ) (D : ℕ) where
           size = k.size ∙ a.size;
           heap = kept_heap k f' a.heap;
           runs = λ m c. rw (kept_whole k f', kept_outside k f') (a.runs m c);
-          comes = rw (kept_whole k f', kept_outside k f') a.comes;
           rests = λ e. rw (kept_phi k f') (a.rests e);
         }
 

@@ -1,6 +1,5 @@
 -- The room of a run, and a turn of the machine.
 pub mod Room
-pub mod Rest
 pub mod Stack
 pub mod Turn
 pub mod Leads

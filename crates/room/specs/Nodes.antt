@@ -3,10 +3,10 @@ use Rattle.std.specs.Prelude.{◌≡◌, Bool, true, false, List, eqb, ltb, leb,
 use Rattle.std.proofs.Math.Path.{refl}
 use Rattle.std.proofs.Common.{sym, ◌∙◌, ap}
 use Rattle.std.proofs.Math.Option.{Option, none, some}
-use Prim.Native.Nat.{ℕ, zero, suc, ◌+◌, ◌^◌, ◌≤◌, ◌<◌}
+use Prim.Native.Nat.{ℕ, zero, suc, ◌^◌, ◌≤◌, ◌<◌}
 use native.Mathlib.Omega.{arith}
 use Rattle.std.proofs.Math.ListN.{length}
-use borrow.Author.Tests.{ltb-true, leb-true, lt-ltb}
+use borrow.Author.Tests.{ltb-true, leb-true}
 use Rattle.words.specs.declared.Value.{Value}
 use Rattle.words.specs.declared.Value.TheVariants.{Null, Intg, Addr}
 use Rattle.words.specs.declared.Ty.{Ty}
@@ -27,7 +27,7 @@ use Rattle.laws.specs.Values.{value_at}
 use Rattle.laws.specs.Trees.{operand_count, operand_below, known}
 use Rattle.laws.specs.Frames.{plug, outer, plugs, outers, begun, Plain, Quiet, quiet_plain, step_var, step_while}
 use Rattle.room.specs.declared.Focus.TheVariants.{Node, Value as Word}
-use Rattle.room.specs.Room.{search_word, frame_at, held, store_of, shape_of, makes_block, loaded, operand_of, frame_of, word, tag, frame, frames}
+use Rattle.room.specs.Room.{search_word, frame_at, held, store_of, shape_of, loaded, operand_of, frame_of, word, tag, frame, frames}
 use Rattle.room.specs.RoomLaws.{kept_store, kept_fit, frames_more, fit_more, store_at, push, push_kept, push_tag, push_place, push_block, block_size, block_below, block_tag, block_fit, block_plugs, block_outers}
 use Rattle.room.specs.Stack.{Goes, Halts, Beyond, goes_at, halts_at, beyond_at, Works, busy}
 use Rattle.room.specs.Turn.{HeapOk, focus_of, weight, behind, pending, finds, Inv, Moves, Steps}
@@ -46,11 +46,6 @@ names ws n h =
     and_left (names_hold (class_count ws) (kind_of (node_word ws n 0)) (node_word ws n 2) (node_word ws n 3))
     (size_is n (node_word ws n 1) (reach ws (operands (kind_of (node_word ws n 0)) (node_word ws n 3)) n))
     h
-
--- a class of the image is a type that may be declared
-pub class_declared : (c classes : ℕ) → c < classes → is_declared (4 + c) classes ≡ true
-unfolding is_declared type_of
-class_declared c classes h = let e : 4 + c ≡ suc (suc (suc (suc c))) = omega arith in rw e (lt-ltb c classes h)
 
 module _ (ws : List ℕ) (n : ℕ) (h : node_holds ws n ≡ true) where
   pub new_class : node_word ws n 0 ≡ 0 → node_word ws n 2 < class_count ws
@@ -101,17 +96,9 @@ module _ (ws : List ℕ) (n : ℕ) (h : node_holds ws n ≡ true) where
   unfolding kind_of names_hold is_local
   block_local e = let p = rw e at (names ws n h) in ltb-true (node_word ws n 2) variables (and_right (leb 1 (node_word ws n 2)) (ltb (node_word ws n 2) variables) (and_left (is_local (node_word ws n 2)) (is_declared (node_word ws n 3) (class_count ws)) p))
 
-  -- a block's type may be declared, and so may a Try's class
-  pub block_type : node_word ws n 0 ≡ 10 → is_declared (node_word ws n 3) (class_count ws) ≡ true
-  unfolding kind_of names_hold
-  block_type e = let p = rw e at (names ws n h) in and_right (is_local (node_word ws n 2)) (is_declared (node_word ws n 3) (class_count ws)) p
-
   pub try_class : node_word ws n 0 ≡ 15 → node_word ws n 2 < class_count ws
   unfolding kind_of names_hold is_class
   try_class e = let p = rw e at (names ws n h) in ltb-true (node_word ws n 2) (class_count ws) (and_left (is_class (class_count ws) (node_word ws n 2)) (is_local (node_word ws n 3)) p)
-
-  pub try_type : node_word ws n 0 ≡ 15 → is_declared (4 + node_word ws n 2) (class_count ws) ≡ true
-  try_type e = class_declared (node_word ws n 2) (class_count ws) (try_class e)
 
   pub try_local : node_word ws n 0 ≡ 15 → node_word ws n 3 < variables
   unfolding kind_of names_hold is_local
@@ -427,7 +414,7 @@ module _ (ws : List ℕ) (good : (n : ℕ) → n < node_count ws → node_holds 
     -- a Block: its variable is unset inside
     pub enter_block : l ≤ D → node_word ws n 0 ≡ 10
         → Moves ws D room l (Node n) (push_block room l n (node_word ws n 2) (node_word ws n 3) 0) (suc l) (Node (operand ws n 0))
-    unfolding focus_of kind_of shape_of load node_of operands held pending behind weight makes_block
+    unfolding focus_of kind_of shape_of load node_of operands held pending behind weight
     enter_block h k =
         let x = node_word ws n 2 in
         let y = node_word ws n 3 in
@@ -438,7 +425,7 @@ module _ (ws : List ℕ) (good : (n : ℕ) → n < node_count ws → node_holds 
         record {
           inv =
               record {
-                fit = block_fit ws room l n x y 0 m f tt (inv.here, rw k, block_type ws n (good n inv.here) k) inv.fit;
+                fit = block_fit ws room l n x y 0 m f tt inv.fit;
                 level = omega arith;
                 long = rw (block_size ws room l n x y 0 m f) inv.long;
                 here = omega (arith, inv.here, operand_below ws n (good n inv.here) 0 (omega arith));

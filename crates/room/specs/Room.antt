@@ -1,14 +1,14 @@
 -- How the lent room holds a running expression. Words 0 to 63 are the variables. Word 64 is the slot from which New goes on to look
 -- for a free one. From word 80 on there are frames of 16 words, one for each constructor above the active place, the root's first.
-use Rattle.std.specs.Prelude.{◌≡◌, Bool, true, cond, ◌||◌, List, [], ◌∷◌, ℕ, zero, suc, ◌+◌, ◌*◌, ◌-◌, ◌≤◌, ◌<◌, eqb, ltb, length, get_or}
+use Rattle.std.specs.Prelude.{◌≡◌, cond, List, [], ◌∷◌, ℕ, zero, suc, ◌+◌, ◌*◌, ◌-◌, ◌≤◌, ◌<◌, ltb, length, get_or}
 use Rattle.std.proofs.Math.Option.{Option, none, some}
 use Rattle.words.specs.declared.Value.{Value}
 use Rattle.words.specs.declared.Ty.TheVariants.{Void}
-use Rattle.words.specs.Types.{type_of, is_declared}
+use Rattle.words.specs.Types.{type_of}
 use Rattle.image.specs.declared.Kind.{Kind}
 use Rattle.image.specs.declared.Kind.TheVariants.{New, Cast, Value as Literal, Var, Add, Eq, Assign, Get, Set, Call, Block, Seq, If, While, Throw, Try, Unknown}
 use Rattle.image.specs.Numbers.{most_arguments, variables}
-use Rattle.image.specs.Trailer.{class_count, node_count}
+use Rattle.image.specs.Trailer.{node_count}
 use Rattle.image.specs.Nodes.{node_word, kind_of}
 use Rattle.rules.specs.Maps.{tabulate}
 use Rattle.rules.specs.Trees.{Expr, seq, operand, arguments, tree}
@@ -78,10 +78,6 @@ calling p m y zero words o = call_l p m (arguments o y)
 calling p m y (suc k) words o =
     call_r p m 0 (value_at (words 0)) (tabulate k (λ i. (0, value_at (words (suc i))))) (arguments o (y - suc k))
 
--- the kinds that make blocks: Call, Block, Try
-unfoldable pub makes_block : ℕ → Bool
-makes_block kind = eqb kind 9 || eqb kind 10 || eqb kind 15
-
 module _ (ws : List ℕ) where
   -- the tree of a node, made ready to run
   abbrev pub loaded : ℕ → Expr
@@ -129,23 +125,19 @@ module _ (ws : List ℕ) where
   Held zero = Unit {0}
   Held (suc w) = IsValue w
 
-  -- a node that makes blocks, and a type that may be declared
-  abbrev pub Makes : (p b : ℕ) → Type 0
-  Makes p b = (p < node_count ws) × (makes_block (node_word ws p 0) ≡ true) × (is_declared b (class_count ws) ≡ true)
-
   -- what the words of a frame must be
-  abbrev pub FrameOk : Shape → (tag p a b c : ℕ) → (words : ℕ → ℕ) → Type 0
-  FrameOk first tag p a b c words = IsNode p tag
-  FrameOk second tag p a b c words = IsNode p (tag - 16) × IsValue a
-  FrameOk operands tag p a b c words = IsNode p tag × (a ≤ node_word ws p 3) × ((k : ℕ) → k < a → IsValue (words k))
-  FrameOk block tag p a b c words = (a < variables) × Held c × Makes p b
-  FrameOk test tag p a b c words = IsNode p 13
-  FrameOk loop tag p a b c words = IsNode p 13
-  FrameOk nothing tag p a b c words = ⊥
+  abbrev pub FrameOk : Shape → (tag p a c : ℕ) → (words : ℕ → ℕ) → Type 0
+  FrameOk first tag p a c words = IsNode p tag
+  FrameOk second tag p a c words = IsNode p (tag - 16) × IsValue a
+  FrameOk operands tag p a c words = IsNode p tag × (a ≤ node_word ws p 3) × ((k : ℕ) → k < a → IsValue (words k))
+  FrameOk block tag p a c words = (a < variables) × Held c
+  FrameOk test tag p a c words = IsNode p 13
+  FrameOk loop tag p a c words = IsNode p 13
+  FrameOk nothing tag p a c words = ⊥
 
   -- A room that holds an expression with l frames above its active place.
   pub record Fit (room : List ℕ) (l : ℕ) : Type 0 where
     pub long : frame_at l ≤ length room
     pub frame_ok : (i : ℕ) → i < l
-        → FrameOk (shape_of (tag room i)) (tag room i) (word room i 1) (word room i 2) (word room i 3) (word room i 4) (kept room i)
+        → FrameOk (shape_of (tag room i)) (tag room i) (word room i 1) (word room i 2) (word room i 4) (kept room i)
     pub held_ok : (x : ℕ) → x < variables → Held (get_or room x 0)

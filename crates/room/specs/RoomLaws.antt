@@ -21,8 +21,7 @@ use Rattle.rules.specs.Step.{Store, blocked}
 use Rattle.laws.specs.Values.{IsValue}
 use Rattle.laws.specs.Maps.{upd_same, upd_restore}
 use Rattle.laws.specs.Frames.{Frame, block_f, plug, outer, plugs, outers}
-use Rattle.image.specs.Trailer.{node_count}
-use Rattle.room.specs.Room.{most_operands, frame_at, held, store_of, Shape, first, second, operands, block, test, loop, nothing, shape_of, frame_of, word, tag, kept, frame, frames, IsNode, Held, Makes, FrameOk, Fit}
+use Rattle.room.specs.Room.{most_operands, frame_at, held, store_of, first, second, shape_of, frame_of, word, tag, kept, frame, frames, IsNode, Held, FrameOk, Fit}
 
 -- what stands below frame l is as it was
 pub record Kept (old new : List ℕ) (l : ℕ) : Type 0 where
@@ -91,10 +90,9 @@ module _ (ws : List ℕ) where
         rw (tag_same, word_same 1 (omega arith), word_same 2 (omega arith), word_same 3 (omega arith), word_same 4 (omega arith), kept_same)
 
     pub ok_same
-        : FrameOk ws (shape_of (tag ws old i)) (tag ws old i) (word ws old i 1) (word ws old i 2) (word ws old i 3) (word ws old i 4) (kept ws old i)
-        → FrameOk ws (shape_of (tag ws new i)) (tag ws new i) (word ws new i 1) (word ws new i 2) (word ws new i 3) (word ws new i 4) (kept ws new i)
-    ok_same h =
-        rw (tag_same, word_same 1 (omega arith), word_same 2 (omega arith), word_same 3 (omega arith), word_same 4 (omega arith), kept_same) h
+        : FrameOk ws (shape_of (tag ws old i)) (tag ws old i) (word ws old i 1) (word ws old i 2) (word ws old i 4) (kept ws old i)
+        → FrameOk ws (shape_of (tag ws new i)) (tag ws new i) (word ws new i 1) (word ws new i 2) (word ws new i 4) (kept ws new i)
+    ok_same h = rw (tag_same, word_same 1 (omega arith), word_same 2 (omega arith), word_same 4 (omega arith), kept_same) h
 
   pub frames_same : (old new : List ℕ) (l : ℕ) → ((j : ℕ) → frame_at 0 ≤ j → j < frame_at l → get_or new j 0 ≡ get_or old j 0)
       → frames ws new l ≡ frames ws old l
@@ -120,13 +118,13 @@ module _ (ws : List ℕ) where
       }
 
   pub fit_more : {room : List ℕ} {l : ℕ} → Fit ws room l → frame_at (suc l) ≤ length room
-      → FrameOk ws (shape_of (tag ws room l)) (tag ws room l) (word ws room l 1) (word ws room l 2) (word ws room l 3) (word ws room l 4) (kept ws room l)
+      → FrameOk ws (shape_of (tag ws room l)) (tag ws room l) (word ws room l 1) (word ws room l 2) (word ws room l 4) (kept ws room l)
       → Fit ws room (suc l)
   fit_more {room} {l} f h o =
       record { long = h; frame_ok = λ i k. go i k (ℕ_discrete i l); held_ok = f.held_ok }
     where
       go : (i : ℕ) → i < suc l → Dec (i ≡ l)
-          → FrameOk ws (shape_of (tag ws room i)) (tag ws room i) (word ws room i 1) (word ws room i 2) (word ws room i 3) (word ws room i 4) (kept ws room i)
+          → FrameOk ws (shape_of (tag ws room i)) (tag ws room i) (word ws room i 1) (word ws room i 2) (word ws room i 4) (kept ws room i)
       go i k (yes e) = rw e o
       go i k (no d) = f.frame_ok i (omega arith)
 
@@ -160,24 +158,9 @@ pub fit_variable : {ws room : List ℕ} {i : ℕ} → Fit ws room (suc i) → ta
 unfolding shape_of
 fit_variable {ws} {room} {i} f t = let o = rw t at (f.frame_ok i (omega arith)) in o.0
 
--- a frame of any shape stands at a node
-ok_place : (ws : List ℕ) (s : Shape) (t p a b c : ℕ) (words : ℕ → ℕ) → FrameOk ws s t p a b c words → p < node_count ws
-ok_place ws first t p a b c words o = o.0
-ok_place ws second t p a b c words o = o.0.0
-ok_place ws operands t p a b c words o = o.0.0
-ok_place ws block t p a b c words o = o.2.0
-ok_place ws test t p a b c words o = o.0
-ok_place ws loop t p a b c words o = o.0
-ok_place ws nothing t p a b c words o = absurd o
-
-pub fit_place : {ws room : List ℕ} {i : ℕ} → Fit ws room (suc i) → word ws room i 1 < node_count ws
-fit_place {ws} {room} {i} f =
-    ok_place ws (shape_of (tag ws room i)) (tag ws room i) (word ws room i 1) (word ws room i 2) (word ws room i 3) (word ws room i 4) (kept ws room i)
-    (f.frame_ok i (omega arith))
-
 -- what the words of the last frame are, by its tag
 module _ (ws : List ℕ) {room : List ℕ} {i : ℕ} (fit : Fit ws room (suc i)) where
-  ok : FrameOk ws (shape_of (tag ws room i)) (tag ws room i) (word ws room i 1) (word ws room i 2) (word ws room i 3) (word ws room i 4) (kept ws room i)
+  ok : FrameOk ws (shape_of (tag ws room i)) (tag ws room i) (word ws room i 1) (word ws room i 2) (word ws room i 4) (kept ws room i)
   ok = fit.frame_ok i (omega arith)
 
   pub fit_first : (k : ℕ) → shape_of k ≡ first → tag ws room i ≡ k → IsNode ws (word ws room i 1) k
@@ -342,20 +325,12 @@ module _ (ws room : List ℕ) (l p x t w : ℕ) (local : x < variables) (h : fra
   unfolding push_block
   block_tag = get_or-set_other (framed room l p x t) x (frame_at l) w 0 (λ e. let q : frame_at l ≡ x = e in omega arith) ∙ framed_tag
 
-  pub block_fit : Held ws w → Makes ws p t → Fit ws room l → Fit ws (push_block room l p x t w) (suc l)
+  pub block_fit : Held ws w → Fit ws room l → Fit ws (push_block room l p x t w) (suc l)
   unfolding push_block shape_of
-  block_fit o m f =
+  block_fit o f =
       set_fit ws x w local o
       (fit_more ws (kept_fit ws framed_kept f) (rw framed_kept.size h)
-      (rw (
-        framed_tag,
-        framed_low 1 (omega arith),
-        framed_low 2 (omega arith),
-        push3_place ws room l 10 p x (omega arith),
-        push3_third ws room l 10 p x (omega arith),
-        framed_type,
-        framed_old,
-      ) (local, f.held_ok x local, m)))
+      (rw (framed_tag, framed_low 2 (omega arith), push3_third ws room l 10 p x (omega arith), framed_old) (local, f.held_ok x local)))
 
   -- the block with e in it
   pub block_plugs : (e : Expr)

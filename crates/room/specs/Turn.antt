@@ -16,7 +16,6 @@ use Rattle.room.specs.declared.Focus.TheVariants.{Node, Value, Thrown}
 use Rattle.room.specs.declared.Go.{Go}
 use Rattle.room.specs.declared.Go.TheVariants.{Moved, Stepped, Limit, Sunk, Stuck, Deep, Over}
 use Rattle.room.specs.Room.{search_word, store_of, Shape, first, second, operands as calls, block, test, loop, nothing, shape_of, loaded, word, tag, frames, Fit}
-use Rattle.room.specs.Rest.{resting}
 use Rattle.room.specs.Stack.{Goes, Halts, Beyond}
 
 -- a heap whose words hold, with no free slot below the one from which New looks
@@ -36,7 +35,7 @@ module _ (ws : List ℕ) where
   abbrev pub FocusOk : Focus → Type 0
   FocusOk (Node n) = n < node_count ws
   FocusOk (Value w) = IsValue w
-  FocusOk (Thrown a p) = (a < addresses) × (p < node_count ws)
+  FocusOk (Thrown a p) = a < addresses
 
   -- Nodes that moves have still to go through: the focus's own, and those of the operands behind it. A node weighs more than a value.
   unfoldable pub weight : Focus → ℕ
@@ -111,16 +110,12 @@ module _ (ws : List ℕ) where
   Final l (Value w) = l ≡ 0
   Final l (Thrown a p) = l ≡ 0
 
-  -- the room is as it was, and all moves are made
-  abbrev pub Rests : (room : List ℕ) (l : ℕ) (f : Focus) (room' : List ℕ) → Type 0
-  Rests room l f room' = (room' ≡ room) × (resting ws room l f ≡ true)
-
-  -- What a turn promises, where `may` says whether a step may be taken. Without leave heap and room are left alone.
+  -- What a turn promises, where `may` says whether a step may be taken. Without leave the heap is left alone.
   abbrev pub Turned : (D : ℕ) (may : Bool) (hs room : List ℕ) (l : ℕ) (f : Focus) (hs' room' : List ℕ) → Go → Type 0
   Turned D may hs room l f hs' room' (Moved g k) = Moves D room l f room' k g × (hs' ≡ hs)
-  Turned D may hs room l f hs' room' (Stepped g k) = Steps D hs room l f hs' room' k g × (may ≡ false → (hs' ≡ hs) × Rests room l f room')
-  Turned D may hs room l f hs' room' Limit = Could D hs room l f × (may ≡ false) × (hs' ≡ hs) × Rests room l f room'
-  Turned D may hs room l f hs' room' Sunk = Sinks D hs room l f × (hs' ≡ hs) × Rests room l f room'
+  Turned D may hs room l f hs' room' (Stepped g k) = Steps D hs room l f hs' room' k g × (may ≡ false → hs' ≡ hs)
+  Turned D may hs room l f hs' room' Limit = Could D hs room l f × (may ≡ false) × (hs' ≡ hs)
+  Turned D may hs room l f hs' room' Sunk = Sinks D hs room l f × (hs' ≡ hs)
   Turned D may hs room l f hs' room' (Stuck q) = Halts D (finds hs room l f) q × (hs' ≡ hs)
   Turned D may hs room l f hs' room' Deep = Beyond D (finds hs room l f) × (hs' ≡ hs)
   Turned D may hs room l f hs' room' Over = Final l f × (hs' ≡ hs)

@@ -19,11 +19,11 @@ use Rattle.laws.specs.Trees.{operand_count, operand_below}
 use Rattle.laws.specs.Frames.{plug, outer, thrown_out, thrown_in_lem, Plain, quiet_plain, blocked_some}
 use Rattle.room.specs.declared.Focus.{Focus}
 use Rattle.room.specs.declared.Focus.TheVariants.{Node, Thrown}
-use Rattle.room.specs.Room.{search_word, frame_at, held, store_of, shape_of, makes_block, begun, halfway, calling, operand_of, frame_of, word, tag, kept, frame, frames, IsNode}
-use Rattle.room.specs.RoomLaws.{fit_less, fit_place, set_store, set_frames, set_fit, push_block, block_size, block_below, block_fit, block_plugs, block_outers}
+use Rattle.room.specs.Room.{search_word, frame_at, held, store_of, shape_of, begun, halfway, calling, operand_of, frame_of, word, tag, kept, frame, frames, IsNode}
+use Rattle.room.specs.RoomLaws.{fit_less, set_store, set_frames, set_fit, push_block, block_size, block_below, block_fit, block_plugs, block_outers}
 use Rattle.room.specs.Stack.{Halts, goes_back, halts_back}
 use Rattle.room.specs.Turn.{HeapOk, focus_of, finds, Inv, Steps}
-use Rattle.room.specs.Nodes.{length_frames, quiet_other, try_type, try_local}
+use Rattle.room.specs.Nodes.{length_frames, quiet_other, try_local}
 
 -- every frame but a Try's passes it on, and every one but a block's leaves the variables alone
 passes : (P : Program) (h : Heap) (s : Store) (a : ℕ) (ws : List ℕ) (t p x b c : ℕ) (k : ℕ → ℕ) → (t ≡ 15 → ⊥)
@@ -137,13 +137,13 @@ module _ (ws : List ℕ) (good : (n : ℕ) → n < node_count ws → node_holds 
             (focus_of ws g) (heap_of (program ws) hs) (store_of room') p still low (finds_thrown ∙ e));
       }
 
-  less : Inv ws D room i (Thrown a (word ws room i 1))
-  less =
+  less : (p : ℕ) → Inv ws D room i (Thrown a p)
+  less p =
       record {
         fit = fit_less ws (omega arith) inv.fit;
         level = omega (arith, inv.level);
         long = inv.long;
-        here = (inv.here.0, fit_place inv.fit);
+        here = inv.here;
       }
 
   pub pass_steps : (tag ws room i ≡ 10 → ⊥) → (tag ws room i ≡ 15 → ⊥)
@@ -154,7 +154,7 @@ module _ (ws : List ℕ) (good : (n : ℕ) → n < node_count ws → node_holds 
       (rw (keeps (store_of room) ws (tag ws room i) (word ws room i 1) (word ws room i 2) (word ws room i 3) (word ws room i 4) (kept ws room i) d)
       (passes (program ws) (heap_of (program ws) hs) (store_of room) a ws (tag ws room i) (word ws room i 1) (word ws room i 2)
       (word ws room i 3) (word ws room i 4) (kept ws room i) e))
-      refl less refl heap
+      refl (less (word ws room i 1)) refl heap
 
   -- a block gives its variable back
   pub leave_steps : tag ws room i ≡ 10
@@ -171,7 +171,7 @@ module _ (ws : List ℕ) (good : (n : ℕ) → n < node_count ws → node_holds 
         fit = set_fit ws x u o.0 o.1 (fit_less ws (omega arith) inv.fit);
         level = omega (arith, inv.level);
         long = rw length-set inv.long;
-        here = (inv.here.0, fit_place inv.fit);
+        here = inv.here;
       })
       (length-set room x u)
       (rw (get_or-set_other room x search_word u 0 (λ e. let z : search_word ≡ x = e in omega arith)) heap)
@@ -197,7 +197,7 @@ module _ (ws : List ℕ) (good : (n : ℕ) → n < node_count ws → node_holds 
         → Steps ws D hs room (suc i) (Thrown a q) hs room i (Thrown a (word ws room i 1))
     unfolding focus_of
     pass_try e =
-        out_steps (word ws room i 1) room (Thrown a (word ws room i 1)) (tried _ e) refl less refl heap
+        out_steps (word ws room i 1) room (Thrown a (word ws room i 1)) (tried _ e) refl (less (word ws room i 1)) refl heap
 
     pub halt_try
         : catch_slot (program ws) (word ws room i 1) (heap_of (program ws) hs) (store_of room) (node_word ws (word ws room i 1) 2)
@@ -219,7 +219,7 @@ module _ (ws : List ℕ) (good : (n : ℕ) → n < node_count ws → node_holds 
         → Steps ws D hs room (suc i) (Thrown a q) hs
         (push_block room i (word ws room i 1) (node_word ws (word ws room i 1) 3) (4 + node_word ws (word ws room i 1) 2) (suc u)) (suc i)
         (Node (operand ws (word ws room i 1) 0))
-    unfolding frames focus_of held kind_of operands makes_block
+    unfolding frames focus_of held kind_of operands
     catch_steps u v k e =
         let p = word ws room i 1 in
         let x = node_word ws p 3 in
@@ -231,7 +231,7 @@ module _ (ws : List ℕ) (good : (n : ℕ) → n < node_count ws → node_holds 
         record {
           inv =
               record {
-                fit = block_fit ws room i p x (4 + c) (suc u) m f k (n.0, rw n.1, try_type ws p (good p n.0) n.1) (fit_less ws (omega arith) inv.fit);
+                fit = block_fit ws room i p x (4 + c) (suc u) m f k (fit_less ws (omega arith) inv.fit);
                 level = inv.level;
                 long = rw (block_size ws room i p x (4 + c) (suc u) m f) inv.long;
                 here = omega (arith, n.0, operand_below ws p (good p n.0) 0 two);

@@ -1,4 +1,4 @@
--- The numbers a caller gets, 10 to 21, and the rules of the three public questions. 1 to 9 are the layout's.
+-- The numbers a caller gets, 10 to 20, and the rules of the three public questions. 1 to 9 are the layout's.
 use Rattle.std.specs.Prelude.{ℕ, zero, suc, ◌+◌, ◌*◌, ◌-◌, ◌/◌, ◌%◌, max, Bool, true, false, cond, ◌&&◌, ◌||◌, List, [], ◌∷◌, ◌++◌, map, ltb, leb, eqb, length, get_or}
 use Rattle.std.proofs.Math.Option.{Option, none, some}
 use Rattle.order.specs.Rules.{Rule}
@@ -155,13 +155,6 @@ depth_rule depth = tested 19 ((leb 1 depth && leb depth most_depth) ∷ [])
 unfoldable pub room_rule : (depth room : ℕ) → Rule
 room_rule depth room = tested 20 (leb (room_words depth) room ∷ [])
 
--- A run that is gone on with takes no inputs: 16 at 0 where there are any. 21 asks whether there is one to go on with.
-unfoldable pub no_input_rule : (is : List ℕ) → Rule
-no_input_rule is = tested 16 (eqb (length is) 0 ∷ [])
-
-unfoldable pub paused_rule : (goes : Bool) → Rule
-paused_rule goes = tested 21 (goes ∷ [])
-
 -- The three questions: the rules of each, in the order in which they are asked.
 unfoldable pub check_rules : (ws : List ℕ) → List Rule
 check_rules ws = layout_rules ws ++ (fields_rule ws ∷ override_rule ws ∷ typing_rule ws ∷ setting_rule ws ∷ [])
@@ -177,7 +170,6 @@ conform_rules ws hs is =
     ∷ input_type_rule ws hs is
     ∷ [])
 
--- A run that starts,
 unfoldable pub run_rules : (ws hs is : List ℕ) → (room depth : ℕ) → List Rule
 run_rules ws hs is room depth =
     layout_rules ws
@@ -187,19 +179,6 @@ run_rules ws hs is room depth =
     ∷ input_rule ws is
     ∷ depth_rule depth
     ∷ room_rule depth room
-    ∷ [])
-
--- and one that is gone on with
-unfoldable pub go_on_rules : (ws hs is : List ℕ) → (room depth : ℕ) → (goes : Bool) → List Rule
-go_on_rules ws hs is room depth goes =
-    layout_rules ws
-    ++ (fields_rule ws
-    ∷ heap_length_rule hs
-    ∷ heap_word_rule ws hs
-    ∷ no_input_rule is
-    ∷ depth_rule depth
-    ∷ room_rule depth room
-    ∷ paused_rule goes
     ∷ [])
 
 -- the number and place of an end, and the value that it carries

@@ -30,35 +30,10 @@ module _ (depth : ℕ) where
   run P zero k h l e = judge k h (step P e h l) (λ h' l' e'. record { end = OutOfSteps; count = k; heap = h })
   run P (suc n) k h l e = judge k h (step P e h l) (λ h' l' e'. run P n (suc k) h' l' e')
 
--- All that a step depends on: the heap, the variables, and the expression.
-pub record State : Type 0 where
-  pub heap : Heap
-  pub store : Store
-  pub expr : Expr
-
--- the state after what the active place says; where no step is taken it stays
-unfoldable pub moved : State → Out → State
-moved s (value q v) = s
-moved s (thrown a) = s
-moved s (next d q h l e) = record { heap = h; store = l; expr = e }
-moved s (stuck d q) = s
-
--- the state after n steps
-unfoldable pub after_steps : Program → (n : ℕ) → State → State
-after_steps P zero s = s
-after_steps P (suc n) s = after_steps P n (moved s (step P s.expr s.heap s.store))
-
--- a run from a state, k steps having been taken
-abbrev pub run_from : (depth : ℕ) → Program → (left k : ℕ) → State → Ended
-run_from depth P left k s = run depth P left k s.heap s.store s.expr
-
--- A start: the heap's words, the inputs' words as variables from 1 on, and main.
-abbrev pub start_of : (image heap inputs : List ℕ) → State
-start_of ws hs is = record { heap = heap_of (program ws) hs; store = from 1 (values_of is); expr = load (main ws) }
-
--- the run of an image from its start
+-- The run of an image on a heap's words, with its inputs' words as variables from 1 on.
 unfoldable pub run_of : (image heap inputs : List ℕ) → (steps depth : ℕ) → Ended
-run_of ws hs is steps depth = run_from depth (program ws) steps 0 (start_of ws hs is)
+run_of ws hs is steps depth =
+    run depth (program ws) steps 0 (heap_of (program ws) hs) (from 1 (values_of is)) (load (main ws))
 
 -- the heap's words after the run
 unfoldable pub heap_after : Ended → List ℕ

@@ -15,9 +15,7 @@ ghost use Rattle.refusals.specs.Judged.{Free};
 use ends::Finished;
 use image::{Laid, Layout, MOST_CLASSES};
 use order::{Answer, Found};
-use pause::Record;
 use refusals::{Judged, Refusal};
-use room::Focus;
 use rows::TABLE_WORDS;
 use rules::End;
 use words::Value;
@@ -27,117 +25,14 @@ const FEW_CLASSES: usize = 16;
 
 const FEW_WORDS: usize = 240;
 
-// The answer to a run: a refusal, or how it ended and how many steps were taken since its start.
+// The answer to a run: a refusal, or how it ended and how many steps it took.
 #[derive(Drop)]
 pub enum Ran {
     Refused(Refusal),
     Ended(End, u64),
 }
 
-// The answer, and the record as the run leaves it.
-#[derive(Drop)]
-pub struct Went {
-    pub ran: Ran,
-    pub kept: Record,
-}
-
-// The record of no run.
-fn no_run() -> Record
-    ensures { result ≡ cleared }
-{
-    Record {
-        steps: 0,
-        node: 0,
-        levels: 0,
-    }
-}
-
-// What an end leaves: a run that is out of steps stays in the room, and at any other end all words become 0.
-fn leave(room: &mut [u64], r: Finished) -> Went
-    requires { r.end ≡ OutOfSteps → Keepable room.old r.level r.focus }
-    ensures { Leaves room.old r result room.new }
-{
-    let end = r.end;
-    let count = r.count;
-    let f = r.focus;
-    let l = r.level;
-    match end {
-        End::OutOfSteps => Went {
-            ran: Ran::Ended(End::OutOfSteps, count),
-            kept: keep::keep(room, l, f, count),
-        },
-        _ => {
-            start::clear(room);
-            Went {
-                ran: Ran::Ended(end, count),
-                kept: no_run(),
-            }
-        },
-    }
-}
-
-// A run starts, in a room that is all 0.
-fn start_run(
-    ws: &[u32],
-    l: Layout,
-    counts: &[usize],
-    types: &[u32],
-    heap: &mut [u64],
-    inputs: &[u64],
-    room: &mut [u64],
-    steps: u64,
-    depth: usize,
-) -> Finished {
-    start::set_inputs(room, inputs);
-    machine::run_from(
-        ws,
-        l,
-        counts,
-        types,
-        heap,
-        room,
-        depth,
-        steps,
-        Focus::Node(l.main),
-        0,
-        0,
-    )
-}
-
-// A run is gone on with. One that lies deeper than the limit takes no step.
-fn go_on(
-    ws: &[u32],
-    l: Layout,
-    counts: &[usize],
-    types: &[u32],
-    heap: &mut [u64],
-    room: &mut [u64],
-    kept: Record,
-    steps: u64,
-    depth: usize,
-) -> Finished {
-    let focus = keep::focus_in(room);
-    let level = keep::level_in(room, kept.levels) as usize;
-    let taken = kept.steps;
-    if depth + 1 < level {
-        return ends::over(End::TooDeep, taken, focus, level);
-    }
-    machine::run_from(
-        ws,
-        l,
-        counts,
-        types,
-        heap,
-        room,
-        depth,
-        taken + steps,
-        focus,
-        level,
-        taken,
-    )
-}
-
-// A run that nothing stands against.
+// The run of an image that nothing stands against.
 fn run_clear(
     ws: &[u32],
     l: Layout,
@@ -146,21 +41,17 @@ fn run_clear(
     heap: &mut [u64],
     inputs: &[u64],
     room: &mut [u64],
-    kept: Record,
-    starts: bool,
     steps: u64,
     depth: usize,
-) -> Went
-    requires { Good ws.now l × Rows ws.now counts.now types.now × (accepted ≡ answer_of (layout_rules ws.now)) × (first_place (fields_rule ws.now) ≡ Nowhere) × (starts ≡ fresh room.old kept) × Free ws.now heap.old inputs.now room.old kept steps depth }
-    ensures { Answers ws.now heap.old inputs.now room.old kept steps depth result heap.new room.new }
+) -> Finished
+    requires { Good ws.now l × Rows ws.now counts.now types.now × (first_place (fields_rule ws.now) ≡ Nowhere) × Free ws.now heap.old inputs.now (length room.old) depth }
+    ensures { Finishes (run_of ws.now heap.old inputs.now steps depth) result heap.new × (room.new ≡ replicate (length room.old) 0) }
 {
-    if starts {
-        let r = start_run(ws, l, counts, types, heap, inputs, room, steps, depth);
-        leave(room, r)
-    } else {
-        let r = go_on(ws, l, counts, types, heap, room, kept, steps, depth);
-        leave(room, r)
-    }
+    start::clear_start(room);
+    start::set_inputs(room, inputs);
+    let r = machine::run_on(ws, l, counts, types, heap, room, depth, steps, l.main);
+    start::clear(room);
+    r
 }
 
 // The run of an image whose layout and fields are in order, with a lent table of types that has a row for each of its classes.
@@ -170,37 +61,33 @@ fn run_tabled(
     heap: &mut [u64],
     inputs: &[u64],
     room: &mut [u64],
-    kept: Record,
     steps: u64,
     depth: u64,
     types: &mut [u32],
-) -> Went
+) -> Ran
     requires { Good ws.now l × (accepted ≡ answer_of (layout_rules ws.now)) × (first_place (fields_rule ws.now) ≡ Nowhere) × (row_words * class_count ws.now ≤ length types.old) }
-    ensures { Answers ws.now heap.old inputs.now room.old kept steps depth result heap.new room.new }
+    ensures { Answers ws.now heap.old inputs.now room.old steps depth result heap.new room.new }
 {
     let mut counts: [usize; MOST_CLASSES] = [0; MOST_CLASSES];
     rows::fill_rows(ws, l, &mut counts, types);
-    let starts = paused::is_fresh(room, kept);
-    match refusals::judge(
-        ws, l, &counts, heap, inputs, room, kept, starts, steps, depth,
-    ) {
-        Judged::Against(f) => Went {
-            ran: Ran::Refused(f),
-            kept: kept,
+    match refusals::judge(ws, l, &counts, heap, inputs, room.len(), depth) {
+        Judged::Against(f) => Ran::Refused(f),
+        Judged::Clear => {
+            let r = run_clear(
+                ws,
+                l,
+                &counts,
+                types,
+                heap,
+                inputs,
+                room,
+                steps,
+                depth as usize,
+            );
+            let end = r.end;
+            let count = r.count;
+            Ran::Ended(end, count)
         },
-        Judged::Clear => run_clear(
-            ws,
-            l,
-            &counts,
-            types,
-            heap,
-            inputs,
-            room,
-            kept,
-            starts,
-            steps,
-            depth as usize,
-        ),
     }
 }
 
@@ -211,15 +98,14 @@ fn run_few(
     heap: &mut [u64],
     inputs: &[u64],
     room: &mut [u64],
-    kept: Record,
     steps: u64,
     depth: u64,
-) -> Went
+) -> Ran
     requires { Good ws.now l × (accepted ≡ answer_of (layout_rules ws.now)) × (first_place (fields_rule ws.now) ≡ Nowhere) × (class_count ws.now ≤ few_classes) }
-    ensures { Answers ws.now heap.old inputs.now room.old kept steps depth result heap.new room.new }
+    ensures { Answers ws.now heap.old inputs.now room.old steps depth result heap.new room.new }
 {
     let mut types: [u32; FEW_WORDS] = [0; FEW_WORDS];
-    run_tabled(ws, l, heap, inputs, room, kept, steps, depth, &mut types)
+    run_tabled(ws, l, heap, inputs, room, steps, depth, &mut types)
 }
 
 // The run of an image with any number of classes.
@@ -229,15 +115,14 @@ fn run_many(
     heap: &mut [u64],
     inputs: &[u64],
     room: &mut [u64],
-    kept: Record,
     steps: u64,
     depth: u64,
-) -> Went
+) -> Ran
     requires { Good ws.now l × (accepted ≡ answer_of (layout_rules ws.now)) × (first_place (fields_rule ws.now) ≡ Nowhere) }
-    ensures { Answers ws.now heap.old inputs.now room.old kept steps depth result heap.new room.new }
+    ensures { Answers ws.now heap.old inputs.now room.old steps depth result heap.new room.new }
 {
     let mut types: [u32; TABLE_WORDS] = [0; TABLE_WORDS];
-    run_tabled(ws, l, heap, inputs, room, kept, steps, depth, &mut types)
+    run_tabled(ws, l, heap, inputs, room, steps, depth, &mut types)
 }
 
 // The run of an image whose layout is in order.
@@ -247,51 +132,41 @@ fn run_laid(
     heap: &mut [u64],
     inputs: &[u64],
     room: &mut [u64],
-    kept: Record,
     steps: u64,
     depth: u64,
-) -> Went
+) -> Ran
     requires { Good ws.now l × (accepted ≡ answer_of (layout_rules ws.now)) }
-    ensures { Answers ws.now heap.old inputs.now room.old kept steps depth result heap.new room.new }
+    ensures { Answers ws.now heap.old inputs.now room.old steps depth result heap.new room.new }
 {
     if let Found::At(p) = class_rules::fields_place(ws, l) {
-        return Went {
-            ran: Ran::Refused(Refusal::Fields(p)),
-            kept: kept,
-        };
+        return Ran::Refused(Refusal::Fields(p));
     }
     if l.class_count <= FEW_CLASSES {
-        run_few(ws, l, heap, inputs, room, kept, steps, depth)
+        run_few(ws, l, heap, inputs, room, steps, depth)
     } else {
-        run_many(ws, l, heap, inputs, room, kept, steps, depth)
+        run_many(ws, l, heap, inputs, room, steps, depth)
     }
 }
 
-// The run of an image on a heap, with main's inputs, in lent room: at most so many steps in this call, and at most so deep. A room and a
-// record that are all 0 start a run; any others go on with the one that they hold. Any slices, record and limits may be asked. A refusal
-// changes no word. At an end the heap is as the steps left it. A run that is out of steps stays in room and record; at any other end
-// they are all 0.
+// The run of an image on a heap, with main's inputs, in lent room: at most so many steps, and at most so deep. Any slices and limits
+// may be asked. A refusal changes no word. At an end the heap is as the steps left it, and the room is all 0.
 pub fn run(
     image: &[u32],
     heap: &mut [u64],
     inputs: &[u64],
     room: &mut [u64],
-    kept: Record,
     steps: u64,
     depth: u64,
-) -> Went
-    ensures { Answers image.now heap.old inputs.now room.old kept steps depth result heap.new room.new }
+) -> Ran
+    ensures { Answers image.now heap.old inputs.now room.old steps depth result heap.new room.new }
 {
     match layout::layout_of_image(image) {
-        Laid::Broken(b) => Went {
-            ran: Ran::Refused(Refusal::Layout(b)),
-            kept: kept,
-        },
-        Laid::Sound(l) => run_laid(image, l, heap, inputs, room, kept, steps, depth),
+        Laid::Broken(b) => Ran::Refused(Refusal::Layout(b)),
+        Laid::Sound(l) => run_laid(image, l, heap, inputs, room, steps, depth),
     }
 }
 
-// What a caller gets, as numbers: the paper's number and place, the steps taken since the start, and the word of the value or address that an end
+// What a caller gets, as numbers: the paper's number and place, the steps taken, and the word of the value or address that an end
 // carries. The word and the count are 0 where there is none.
 #[derive(Drop)]
 pub struct Told {

@@ -84,7 +84,7 @@ unfolding answer_of
 held_answer [] h = refl
 held_answer (r ∷ rs) h = rw (nowhere r h.0) (held_answer rs h.1)
 
-pub held_split : (rs ss : List Rule) → AllHeld (rs ++ ss) → AllHeld rs × AllHeld ss
+held_split : (rs ss : List Rule) → AllHeld (rs ++ ss) → AllHeld rs × AllHeld ss
 held_split [] ss h = (tt, h)
 held_split (r ∷ rs) ss h = let k = held_split rs ss h.1 in ((h.0, k.0), k.1)
 

@@ -15,15 +15,15 @@ abbrev pub bound : (ws : List ℕ) (D : ℕ) → ℕ
 bound ws D = 2 * (suc D * node_count ws) + 2 * node_count ws + 4
 
 module _ (ws : List ℕ) (good : (n : ℕ) → n < node_count ws → node_holds ws n ≡ true) (D : ℕ) where
-  behind_low : (s : Shape) (t p a b c : ℕ) (words : ℕ → ℕ) → FrameOk ws s t p a b c words → behind ws s t p a ≤ node_count ws
+  behind_low : (s : Shape) (t p a c : ℕ) (words : ℕ → ℕ) → FrameOk ws s t p a c words → behind ws s t p a ≤ node_count ws
   unfolding behind
-  behind_low first t p a b c words o = omega (arith, o.0)
-  behind_low second t p a b c words o = omega arith
-  behind_low calls t p a b c words o = omega (arith, o.0.0)
-  behind_low block t p a b c words o = omega arith
-  behind_low test t p a b c words o = omega arith
-  behind_low loop t p a b c words o = omega (arith, o.0, node_size ws p (good p o.0))
-  behind_low nothing t p a b c words o = omega arith
+  behind_low first t p a c words o = omega (arith, o.0)
+  behind_low second t p a c words o = omega arith
+  behind_low calls t p a c words o = omega (arith, o.0.0)
+  behind_low block t p a c words o = omega arith
+  behind_low test t p a c words o = omega arith
+  behind_low loop t p a c words o = omega (arith, o.0, node_size ws p (good p o.0))
+  behind_low nothing t p a c words o = omega arith
 
   pending_low : (room : List ℕ) (l : ℕ) → Fit ws room l → pending ws room l ≤ l * node_count ws
   unfolding pending
@@ -32,7 +32,7 @@ module _ (ws : List ℕ) (good : (n : ℕ) → n < node_count ws → node_holds 
       let g : Fit ws room i = record { long = omega (arith, f.long); frame_ok = λ j h. f.frame_ok j (omega arith); held_ok = f.held_ok } in
       let e : suc i * node_count ws ≡ node_count ws + i * node_count ws = omega arith in
       rw e
-      (omega (arith, pending_low room i g, behind_low (shape_of (tag ws room i)) (tag ws room i) (word ws room i 1) (word ws room i 2) (word ws room i 3) (word ws room i 4) (kept ws room i) (f.frame_ok i (omega arith))))
+      (omega (arith, pending_low room i g, behind_low (shape_of (tag ws room i)) (tag ws room i) (word ws room i 1) (word ws room i 2) (word ws room i 4) (kept ws room i) (f.frame_ok i (omega arith))))
 
   weight_low : (f : Focus) → FocusOk ws f → weight ws f ≤ 2 * node_count ws + 3
   unfolding weight

@@ -25,7 +25,7 @@ fn value_back(
     ensures { Turned ws.now depth may heap.old room.old (suc i) (Word w) heap.new room.new result }
 {
     if room[FRAMES + FRAME_WORDS * i] == CALL {
-        calls::back_call(ws, lay, heap, room, depth, may, i, w)
+        calls::back_call(ws, lay, heap, room, depth, i, w)
     } else {
         back::back(ws, lay, counts, heap, room, may, i, w)
     }
@@ -59,7 +59,7 @@ pub fn turn(
             if l == 0 {
                 return Go::Over;
             }
-            unwind::unwind(ws, lay, heap, room, depth, may, l - 1, a, q)
+            unwind::unwind(ws, lay, heap, room, depth, l - 1, a, q)
         },
     }
 }

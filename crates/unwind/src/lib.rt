@@ -1,5 +1,5 @@
 // An address that is thrown comes to the innermost frame: it goes out of the frame, or a Try catches it.
-ghost use Rattle.std.specs.Prelude.{◌≡◌, suc, get_or};
+ghost use Rattle.std.specs.Prelude.{◌≡◌, Bool, suc, get_or};
 ghost use Rattle.image.specs.Layout.{Good};
 ghost use Rattle.room.specs.declared.Focus.TheVariants.{Thrown};
 ghost use Rattle.room.specs.Room.{search_word, word, tag};
@@ -16,21 +16,17 @@ fn unwind_try(
     heap: &[u64],
     room: &mut [u64],
     depth: usize,
-    may: bool,
     i: usize,
     a: usize,
     q: usize,
     p: usize,
 ) -> Go
     requires { Good ws.now lay × Inv ws.now depth room.old (suc i) (Thrown a q) × HeapOk ws.now heap.now (get_or room.old search_word 0) × (tag ws.now room.old i ≡ 15) × (p ≡ word ws.now room.old i 1) }
-    ensures { Turned ws.now depth may heap.now room.old (suc i) (Thrown a q) heap.now room.new result }
+    ensures { (may : Bool) → Turned ws.now depth may heap.now room.old (suc i) (Thrown a q) heap.now room.new result }
 {
     let c = image::node_word(ws, lay, p, 2) as usize;
     match redexes::catch_redex(ws, lay, heap, c, a) {
         Catch::Catches => {
-            if !may {
-                return Go::Limit;
-            }
             let x = image::node_word(ws, lay, p, 3) as usize;
             pushes::push_block(room, i, p, x, CLASS + c as u64, ADDRESS + a as u64 + 1);
             Go::Stepped(Focus::Node(p - 1), i + 1)
@@ -47,26 +43,22 @@ pub fn unwind(
     heap: &[u64],
     room: &mut [u64],
     depth: usize,
-    may: bool,
     i: usize,
     a: usize,
     q: usize,
 ) -> Go
     requires { Good ws.now lay × Inv ws.now depth room.old (suc i) (Thrown a q) × HeapOk ws.now heap.now (get_or room.old search_word 0) }
-    ensures { Turned ws.now depth may heap.now room.old (suc i) (Thrown a q) heap.now room.new result }
+    ensures { (may : Bool) → Turned ws.now depth may heap.now room.old (suc i) (Thrown a q) heap.now room.new result }
 {
     let at = FRAMES + FRAME_WORDS * i;
     let p = room[at + 1] as usize;
     match room[at] {
         10 => {
-            if !may {
-                return Go::Limit;
-            }
             let x = room[at + 2] as usize;
             room[x] = room[at + 4];
             Go::Stepped(Focus::Thrown(a, p), i)
         }
-        15 => unwind_try(ws, lay, heap, room, depth, may, i, a, q, p),
+        15 => unwind_try(ws, lay, heap, room, depth, i, a, q, p),
         _ => Go::Stepped(Focus::Thrown(a, p), i),
     }
 }

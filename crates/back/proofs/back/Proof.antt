@@ -73,7 +73,7 @@ same-length-4 : tie.Need-same-length-4
 same-length-4 c = search rules
 
 returns-4 : tie.Need-returns-4
-returns-4 c = λ D v. c.before.before.back-plain.ensures D _ (record { nodes = c.before.before.before.before.before.before.before.before.before.before.before.requires.0.nodes; inv = v; heap = c.before.before.before.before.before.before.before.before.before.before.before.requires.4; tagged = refl; placed = refl })
+returns-4 c = λ D v. c.before.before.back-plain.ensures D _ _ (record { nodes = c.before.before.before.before.before.before.before.before.before.before.before.requires.0.nodes; inv = v; heap = c.before.before.before.before.before.before.before.before.before.before.before.requires.4; tagged = refl; placed = refl })
 
 pub back_spec : {M : Type 1} → statement M
 back_spec =

@@ -17,9 +17,9 @@ back-assign-requires c κs = let p = c.before.before.before.before.requires in l
 back-block-requires : tie.Need-back-block-requires
 back-block-requires c κs = let p = c.before.before.before.before.requires in (fit_variable p.2 (p.4 ∙ c.before.match.keys2), p.2.long)
 
-sub-t14 : tie.Need-overflow-sub-t14
+sub-t13 : tie.Need-overflow-sub-t13
 unfolding shape_of kind_of operands
-sub-t14 c = let p = c.before.before.before.requires in let n = node_first _ _ _ p.2 11 c.before.before.before.args.p refl (p.4 ∙ c.match.keys3) p.5 in inner _ _ 11 (p.0.nodes c.before.before.before.args.p n.0) n.1 (omega arith)
+sub-t13 c = let p = c.before.before.before.requires in let n = node_first _ _ _ p.2 11 c.before.before.before.args.p refl (p.4 ∙ c.match.keys3) p.5 in inner _ _ 11 (p.0.nodes c.before.before.before.args.p n.0) n.1 (omega arith)
 
 back-if-requires : tie.Need-back-if-requires
 unfolding shape_of kind_of operands
@@ -77,46 +77,46 @@ same_length : tie.Need-same-length
 same_length c = search rules
 
 returns : tie.Need-returns
-returns c = λ D hs k. c.before.before.back_assign.ensures D hs (rw c.before.before.before.before.match.keys1 at k)
+returns c = λ D hs may k. c.before.before.back_assign.ensures D hs may (rw c.before.before.before.before.match.keys1 at k)
 
 same-length-2 : tie.Need-same-length-2
 same-length-2 c = search rules
 
 returns-2 : tie.Need-returns-2
-returns-2 c = λ D hs k. c.before.before.back_block.ensures _ _ D hs (rw c.before.before.before.before.match.keys2 at k)
+returns-2 c = λ D hs may k. c.before.before.back_block.ensures _ _ D hs may (rw c.before.before.before.before.match.keys2 at k)
 
 returns-3 : tie.Need-returns-3
-returns-3 c = λ D hs k. seq_turned _ D hs _ _ _ _ _ (rw c.match.keys3 at k)
+returns-3 c = λ D hs may k. seq_turned _ D hs _ _ _ _ may (rw c.match.keys3 at k)
 
 returns-4 : tie.Need-returns-4
-returns-4 c = λ D hs k. c.back_if.ensures hs D _ _ (rw c.before.match.keys4 at k)
+returns-4 c = λ D hs may k. c.back_if.ensures hs D _ may (rw c.before.match.keys4 at k)
 
 same-length-3 : tie.Need-same-length-3
 same-length-3 c = search rules
 
 returns-5 : tie.Need-returns-5
-returns-5 c = λ D hs k. c.before.before.back_test.ensures _ D hs (rw c.before.before.before.before.match.keys5 at k)
+returns-5 c = λ D hs may k. c.before.before.back_test.ensures _ D hs may (rw c.before.before.before.before.match.keys5 at k)
 
 returns-6 : tie.Need-returns-6
-returns-6 c = λ D hs k. c.back_throw.ensures _ hs D _ _ (rw c.before.match.keys6 at k)
+returns-6 c = λ D hs may k. c.back_throw.ensures _ hs D _ may (rw c.before.match.keys6 at k)
 
 returns-7 : tie.Need-returns-7
-returns-7 c = λ D hs k. try_turned _ D hs _ c.before.before.before.args.p _ _ _ (rw c.match.keys7 at k)
+returns-7 c = λ D hs may k. try_turned _ D hs _ c.before.before.before.args.p _ _ may (rw c.match.keys7 at k)
 
 returns-8 : tie.Need-returns-8
-returns-8 c = λ D hs k. c.back_add.ensures _ hs D _ _ (rw c.before.before.match.keys8 at k) refl
+returns-8 c = λ D hs may k. c.back_add.ensures _ hs D _ may (rw c.before.before.match.keys8 at k) refl
 
 returns-9 : tie.Need-returns-9
-returns-9 c = λ D hs k. c.back_eq.ensures _ hs c.before.before.before.before.before.args.p D _ _ (rw c.before.before.match.keys9 at k) refl
+returns-9 c = λ D hs may k. c.back_eq.ensures _ hs c.before.before.before.before.before.args.p D _ may (rw c.before.before.match.keys9 at k) refl
 
 returns-10 : tie.Need-returns-10
-returns-10 c = λ D hs k. loop_turned _ D hs _ _ _ _ _ (rw c.match.keys10 at k)
+returns-10 c = λ D hs may k. loop_turned _ D hs _ _ _ _ may (rw c.match.keys10 at k)
 
 same-length-4 : tie.Need-same-length-4
 same-length-4 c = search rules
 
 returns-11 : tie.Need-returns-11
-returns-11 c = λ D hs k. c.before.before.back-first.ensures _ D hs _ k
+returns-11 c = λ D hs may k. c.before.before.back-first.ensures _ D hs may k
 
 pub back_plain_spec : {M : Type 1} → statement M
 back_plain_spec =
@@ -124,7 +124,7 @@ back_plain_spec =
     (tie.spec
     back-assign-requires
     back-block-requires
-    sub-t14
+    sub-t13
     back-if-requires
     back-test-requires
     back-throw-requires

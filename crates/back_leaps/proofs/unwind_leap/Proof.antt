@@ -59,7 +59,7 @@ at-thrown-requires : tie.Need-at-thrown-requires
 at-thrown-requires c κs = search rules
 
 unwind-try-requires : tie.Need-unwind-try-requires
-unwind-try-requires c κs = let p = c.before.before.before.before.before.before.before.before.requires in let n = is_try _ p.0.nodes _ _ _ _ _ _ p.1 p.2 c.before.match.keys2 in (tabled p.0, p.3, p.2.words, n, node_small _ _ p.0 _ n.0, p.1.here.0, p.1.fit.long)
+unwind-try-requires c κs = let p = c.before.before.before.before.before.before.before.before.requires in let n = is_try _ p.0.nodes _ _ _ _ _ _ p.1 p.2 c.before.match.keys2 in (tabled p.0, p.3, p.2.words, n, node_small _ _ p.0 _ n.0, p.1.here, p.1.fit.long)
 
 at-thrown-requires-2 : tie.Need-at-thrown-requires-2
 at-thrown-requires-2 c κs = search rules

@@ -2,8 +2,8 @@
 use Prim.Native.Nat.{◌<◌}
 use Rattle.calls.proofs.back_call.Statement.{statement}
 use Rattle.calls.specs.CallLaws.{few}
-use Rattle.image.specs.Nodes.{node_word}
 use Rattle.pushes.specs.EnterLaws.{call_operand}
+use Rattle.image.specs.Nodes.{node_word}
 use Rattle.room.specs.Back.{is_call}
 use Rattle.room.specs.Calls.{more_moves}
 use Rattle.room.specs.Room.{word}
@@ -86,14 +86,14 @@ sub-operand-place c = let q = c.before.before.before.before.before.before.before
 operand-place-requires : tie.Need-operand-place-requires
 operand-place-requires c κs = let q = c.before.before.before.before.before.before.before.requires in let f = few _ q.0.nodes _ c.before.before.before.before.before.before.before.args.heap.now _ _ _ q.1 q.3 in let n = is_call _ q.0.nodes _ c.before.before.before.before.before.before.before.args.heap.now _ _ _ q.1 q.3 in let l : word c.before.before.before.before.before.before.before.args.ws.now c.before.before.before.before.before.before.before.args.room.now c.before.before.before.before.before.before.before.args.i 2 < node_word c.before.before.before.before.before.before.before.args.ws.now (word c.before.before.before.before.before.before.before.args.ws.now c.before.before.before.before.before.before.before.args.room.now c.before.before.before.before.before.before.before.args.i 1) 3 = omega (arith, n.1, c.if1.false, c.before.node-word.ensures) in (q.0, rw q.0.lay.node_count_lem n.0.0, rw c.before.node-word.ensures (omega (arith, call_operand _ _ n.0.1)))
 
-add-t15 : tie.Need-overflow-add-t15
-add-t15 c = search rules
+add-t14 : tie.Need-overflow-add-t14
+add-t14 c = search rules
 
 same-length-2 : tie.Need-same-length-2
 same-length-2 c = search rules
 
 returns-2 : tie.Need-returns-2
-returns-2 c = let q = c.before.before.before.before.before.before.before.before.requires in let f = few _ q.0.nodes _ c.before.before.before.before.before.before.before.before.args.heap.now _ _ _ q.1 q.3 in let n = is_call _ q.0.nodes _ c.before.before.before.before.before.before.before.before.args.heap.now _ _ _ q.1 q.3 in let l : word c.before.before.before.before.before.before.before.before.args.ws.now c.before.before.before.before.before.before.before.before.args.room.now c.before.before.before.before.before.before.before.before.args.i 2 < node_word c.before.before.before.before.before.before.before.before.args.ws.now (word c.before.before.before.before.before.before.before.before.args.ws.now c.before.before.before.before.before.before.before.before.args.room.now c.before.before.before.before.before.before.before.before.args.i 1) 3 = omega (arith, n.1, c.before.if1.false, c.before.before.node-word.ensures) in (rw (c.operand-place.ensures.0, c.before.before.node-word.ensures, add-one (word c.before.before.before.before.before.before.before.before.args.ws.now c.before.before.before.before.before.before.before.before.args.room.now c.before.before.before.before.before.before.before.before.args.i 2), add-one c.before.before.before.before.before.before.before.before.args.i) (more_moves _ q.0.nodes _ c.before.before.before.before.before.before.before.before.args.heap.now _ _ _ q.1 q.3 l), refl)
+returns-2 c = let q = c.before.before.before.before.before.before.before.before.requires in let f = few _ q.0.nodes _ c.before.before.before.before.before.before.before.before.args.heap.now _ _ _ q.1 q.3 in let n = is_call _ q.0.nodes _ c.before.before.before.before.before.before.before.before.args.heap.now _ _ _ q.1 q.3 in let l : word c.before.before.before.before.before.before.before.before.args.ws.now c.before.before.before.before.before.before.before.before.args.room.now c.before.before.before.before.before.before.before.before.args.i 2 < node_word c.before.before.before.before.before.before.before.before.args.ws.now (word c.before.before.before.before.before.before.before.before.args.ws.now c.before.before.before.before.before.before.before.before.args.room.now c.before.before.before.before.before.before.before.before.args.i 1) 3 = omega (arith, n.1, c.before.if1.false, c.before.before.node-word.ensures) in λ may. (rw (c.operand-place.ensures.0, c.before.before.node-word.ensures, add-one (word c.before.before.before.before.before.before.before.before.args.ws.now c.before.before.before.before.before.before.before.before.args.room.now c.before.before.before.before.before.before.before.before.args.i 2), add-one c.before.before.before.before.before.before.before.before.args.i) (more_moves _ q.0.nodes _ c.before.before.before.before.before.before.before.before.args.heap.now _ _ _ q.1 q.3 l), refl)
 
 pub back_call_spec : {M : Type 1} → statement M
 back_call_spec =
@@ -123,6 +123,6 @@ back_call_spec =
     add-operand-place
     sub-operand-place
     operand-place-requires
-    add-t15
+    add-t14
     same-length-2
     returns-2)

@@ -70,34 +70,34 @@ add-w : tie.Need-overflow-add-w invariant-loop decreases-loop
 add-w c = let q = c.before.before.before.before.before.before.before.before.before.before.before.before.requires in let a = arguments_in q.0 q.1 in omega (arith, a.few)
 
 add-w-2 : tie.Need-overflow-add-w-2 invariant-loop decreases-loop
-add-w-2 c = let q = c.before.before.before.before.before.before.before.before.before.before.before.before.requires in let a = arguments_in q.0 q.1 in let s = c.before.before.loop.invariant.1 _ q.1 (rw (c.before.before.before.before.before.push-block.ensures, c.before.before.before.before.before.before.before.before.before.method-word.ensures) (pushed_first q.0 q.1 _ q.2)) in omega (arith, a.few, q.1.long, pushed_size q.0 q.1 s)
+add-w-2 c = let q = c.before.before.before.before.before.before.before.before.before.before.before.before.requires in let a = arguments_in q.0 q.1 in let s = c.before.before.loop.invariant.1 _ q.1 (rw (c.before.before.before.before.before.push-block.ensures, c.before.before.before.before.before.before.before.before.before.method-word.ensures) (pushed_first q.0 q.1 _)) in omega (arith, a.few, q.1.long, pushed_size q.0 q.1 s)
 
 mul-w : tie.Need-overflow-mul-w invariant-loop decreases-loop
-mul-w c = let q = c.before.before.before.before.before.before.before.before.before.before.before.before.requires in let a = arguments_in q.0 q.1 in let s = c.before.before.loop.invariant.1 _ q.1 (rw (c.before.before.before.before.before.push-block.ensures, c.before.before.before.before.before.before.before.before.before.method-word.ensures) (pushed_first q.0 q.1 _ q.2)) in omega (arith, a.few, q.1.long, pushed_size q.0 q.1 s)
+mul-w c = let q = c.before.before.before.before.before.before.before.before.before.before.before.before.requires in let a = arguments_in q.0 q.1 in let s = c.before.before.loop.invariant.1 _ q.1 (rw (c.before.before.before.before.before.push-block.ensures, c.before.before.before.before.before.before.before.before.before.method-word.ensures) (pushed_first q.0 q.1 _)) in omega (arith, a.few, q.1.long, pushed_size q.0 q.1 s)
 
 slice-read-w : tie.Need-slice-read-w invariant-loop decreases-loop
-slice-read-w c = let q = c.before.before.before.before.before.before.before.before.before.before.before.before.before.requires in let a = arguments_in q.0 q.1 in let s = c.before.before.before.loop.invariant.1 _ q.1 (rw (c.before.before.before.before.before.before.push-block.ensures, c.before.before.before.before.before.before.before.before.before.before.method-word.ensures) (pushed_first q.0 q.1 _ q.2)) in omega (arith, a.few, q.1.long, pushed_size q.0 q.1 s)
+slice-read-w c = let q = c.before.before.before.before.before.before.before.before.before.before.before.before.before.requires in let a = arguments_in q.0 q.1 in let s = c.before.before.before.loop.invariant.1 _ q.1 (rw (c.before.before.before.before.before.before.push-block.ensures, c.before.before.before.before.before.before.before.before.before.before.method-word.ensures) (pushed_first q.0 q.1 _)) in omega (arith, a.few, q.1.long, pushed_size q.0 q.1 s)
 
 add-push-block-3 : tie.Need-overflow-add-push-block-3 invariant-loop decreases-loop
-add-push-block-3 c = let q = c.before.before.before.before.before.before.before.before.before.before.before.before.before.before.requires in let a = arguments_in q.0 q.1 in let s = c.before.before.before.before.loop.invariant.1 _ q.1 (rw (c.before.before.before.before.before.before.before.push-block.ensures, c.before.before.before.before.before.before.before.before.before.before.before.method-word.ensures) (pushed_first q.0 q.1 _ q.2)) in omega (arith, a.few, q.1.long, pushed_size q.0 q.1 s)
+add-push-block-3 c = let q = c.before.before.before.before.before.before.before.before.before.before.before.before.before.before.requires in let a = arguments_in q.0 q.1 in let s = c.before.before.before.before.loop.invariant.1 _ q.1 (rw (c.before.before.before.before.before.before.before.push-block.ensures, c.before.before.before.before.before.before.before.before.before.before.before.method-word.ensures) (pushed_first q.0 q.1 _)) in omega (arith, a.few, q.1.long, pushed_size q.0 q.1 s)
 
 add-push-block-4 : tie.Need-overflow-add-push-block-4 invariant-loop decreases-loop
-add-push-block-4 c = let q = c.before.before.before.before.before.before.before.before.before.before.before.before.before.before.requires in let a = arguments_in q.0 q.1 in let s = c.before.before.before.before.loop.invariant.1 _ q.1 (rw (c.before.before.before.before.before.before.before.push-block.ensures, c.before.before.before.before.before.before.before.before.before.before.before.method-word.ensures) (pushed_first q.0 q.1 _ q.2)) in omega (arith, pushed_low q.0 q.1 _ s (omega arith))
+add-push-block-4 c = let q = c.before.before.before.before.before.before.before.before.before.before.before.before.before.before.requires in let a = arguments_in q.0 q.1 in let s = c.before.before.before.before.loop.invariant.1 _ q.1 (rw (c.before.before.before.before.before.before.before.push-block.ensures, c.before.before.before.before.before.before.before.before.before.before.before.method-word.ensures) (pushed_first q.0 q.1 _)) in omega (arith, pushed_low q.0 q.1 _ s (omega arith))
 
 push-block-requires-2 : tie.Need-push-block-requires-2 invariant-loop decreases-loop
-push-block-requires-2 c κs = let q = c.before.before.before.before.before.before.before.before.before.before.before.before.before.before.requires in let a = arguments_in q.0 q.1 in let s = c.before.before.before.before.loop.invariant.1 _ q.1 (rw (c.before.before.before.before.before.before.before.push-block.ensures, c.before.before.before.before.before.before.before.before.before.before.before.method-word.ensures) (pushed_first q.0 q.1 _ q.2)) in (omega (arith, a.few, q.1.long, pushed_size q.0 q.1 s), omega (arith, a.few))
+push-block-requires-2 c κs = let q = c.before.before.before.before.before.before.before.before.before.before.before.before.before.before.requires in let a = arguments_in q.0 q.1 in let s = c.before.before.before.before.loop.invariant.1 _ q.1 (rw (c.before.before.before.before.before.before.before.push-block.ensures, c.before.before.before.before.before.before.before.before.before.before.before.method-word.ensures) (pushed_first q.0 q.1 _)) in (omega (arith, a.few, q.1.long, pushed_size q.0 q.1 s), omega (arith, a.few))
 
 loop-less : tie.Need-loop-smaller invariant-loop decreases-loop
 loop-less c = search rules
 
 loop-again : tie.Need-loop-preserved invariant-loop decreases-loop
-loop-again c = let q = c.before.before.before.before.before.before.before.before.before.before.before.before.before.before.before.before.before.requires in let a = arguments_in q.0 q.1 in let s = c.before.before.before.before.before.before.before.loop.invariant.1 _ q.1 (rw (c.before.before.before.before.before.before.before.before.before.before.push-block.ensures, c.before.before.before.before.before.before.before.before.before.before.before.before.before.before.method-word.ensures) (pushed_first q.0 q.1 _ q.2)) in (omega arith, λ old k s. rw (c.before.before.push-block2.ensures, c.before.before.before.before.before.type-word.ensures, c.before.before.before.before.before.before.before.before.before.before.before.before.before.method-word2.ensures) (pushed_next q.0 k _ _ _ q.2 (c.before.before.before.before.before.before.before.loop.invariant.1 old k s) (omega arith)))
+loop-again c = let q = c.before.before.before.before.before.before.before.before.before.before.before.before.before.before.before.before.before.requires in let a = arguments_in q.0 q.1 in let s = c.before.before.before.before.before.before.before.loop.invariant.1 _ q.1 (rw (c.before.before.before.before.before.before.before.before.before.before.push-block.ensures, c.before.before.before.before.before.before.before.before.before.before.before.before.before.before.method-word.ensures) (pushed_first q.0 q.1 _)) in (omega arith, λ old k s. rw (c.before.before.push-block2.ensures, c.before.before.before.before.before.type-word.ensures, c.before.before.before.before.before.before.before.before.before.before.before.before.before.method-word2.ensures) (pushed_next q.0 k _ _ _ (c.before.before.before.before.before.before.before.loop.invariant.1 old k s) (omega arith)))
 
 same_length : tie.Need-same-length invariant-loop decreases-loop
-same_length c = let q = c.before.before.before.before.before.before.before.before.before.before.before.requires in let a = arguments_in q.0 q.1 in let s = c.before.loop.invariant.1 _ q.1 (rw (c.before.before.before.before.push-block.ensures, c.before.before.before.before.before.before.before.before.method-word.ensures) (pushed_first q.0 q.1 _ q.2)) in pushed_size q.0 q.1 s
+same_length c = let q = c.before.before.before.before.before.before.before.before.before.before.before.requires in let a = arguments_in q.0 q.1 in let s = c.before.loop.invariant.1 _ q.1 (rw (c.before.before.before.before.push-block.ensures, c.before.before.before.before.before.before.before.before.method-word.ensures) (pushed_first q.0 q.1 _)) in pushed_size q.0 q.1 s
 
 returns : tie.Need-returns invariant-loop decreases-loop
-returns c = let q = c.before.before.before.before.before.before.before.before.before.before.before.requires in let a = arguments_in q.0 q.1 in let s = c.before.loop.invariant.1 _ q.1 (rw (c.before.before.before.before.push-block.ensures, c.before.before.before.before.before.before.before.before.method-word.ensures) (pushed_first q.0 q.1 _ q.2)) in pushed_as q.0 q.1 c.before.loop.k c.before.before.before.before.before.before.before.before.before.before.before.args.y (omega arith) s
+returns c = let q = c.before.before.before.before.before.before.before.before.before.before.before.requires in let a = arguments_in q.0 q.1 in let s = c.before.loop.invariant.1 _ q.1 (rw (c.before.before.before.before.push-block.ensures, c.before.before.before.before.before.before.before.before.method-word.ensures) (pushed_first q.0 q.1 _)) in pushed_as q.0 q.1 c.before.loop.k c.before.before.before.before.before.before.before.before.before.before.before.args.y (omega arith) s
 
 pub push_blocks_spec : {M : Type 1} → statement M
 push_blocks_spec =

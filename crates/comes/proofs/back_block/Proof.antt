@@ -1,12 +1,8 @@
 -- `comes::back_block` meets its contract.
 use Rattle.comes.proofs.back_block.Statement.{statement}
-use Rattle.comes.specs.ComesLaws.{block_limit, block_turned}
+use Rattle.comes.specs.ComesLaws.{block_turned}
 use borrow.Author.Rules.{rules}
-use borrow.Author.Tests.{not-false, not-true}
 use Rattle.comes.proofs.back_block.Tie as tie
-
-returns : tie.Need-returns
-returns c = λ ws p D hs k. block_limit ws D hs _ p _ _ _ k (not-true _ c.if1.true)
 
 mul_at : tie.Need-overflow-mul-at
 mul_at c = search rules
@@ -41,14 +37,13 @@ slice-write-room c = search rules
 same_length : tie.Need-same-length
 same_length c = search rules
 
-returns-2 : tie.Need-returns-2
-returns-2 c = λ ws p D hs k. block_turned ws D hs _ p _ _ _ k (not-false _ c.before.before.if1.false)
+returns : tie.Need-returns
+returns c = λ ws p D hs may k. block_turned ws D hs _ p _ _ may k
 
 pub back_block_spec : {M : Type 1} → statement M
 back_block_spec =
     tie.close
     (tie.spec
-    returns
     mul_at
     add_at
     add-x
@@ -60,4 +55,4 @@ back_block_spec =
     mul-room-2
     slice-write-room
     same_length
-    returns-2)
+    returns)

@@ -5,22 +5,16 @@ use borrow.Author.Rules.{rules}
 use borrow.Author.Tests.{le-ltb, lt-ltb}
 use Rattle.ends.proofs.sunk.Tie as tie
 
-add-over : tie.Need-overflow-add-over
-add-over c = search rules
-
-over-requires : tie.Need-over-requires
-over-requires c κs = search rules
-
-over-requires-2 : tie.Need-over-requires-2
-over-requires-2 c κs = search rules
+add-t6 : tie.Need-overflow-add-t6
+add-t6 c = search rules
 
 returns : tie.Need-returns
 unfolding sunk_at
-returns c = rw (lt-ltb _ _ c.before.if1.true) c.over.ensures
+returns c = rw (lt-ltb _ _ c.if1.true)
 
 returns-2 : tie.Need-returns-2
 unfolding sunk_at
-returns-2 c = rw (le-ltb _ _ c.before.if1.false) c.over2.ensures
+returns-2 c = rw (le-ltb _ _ c.if1.false)
 
 pub sunk_spec : {M : Type 1} → statement M
-sunk_spec = tie.close (tie.spec add-over over-requires over-requires-2 returns returns-2)
+sunk_spec = tie.close (tie.spec add-t6 returns returns-2)

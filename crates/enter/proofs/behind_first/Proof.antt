@@ -1,7 +1,7 @@
 -- `enter::behind_first` meets its contract.
 use Rattle.enter.proofs.behind_first.Statement.{statement}
-use Rattle.image.specs.Nodes.{kind_of, operands}
 use Rattle.pushes.specs.Kinds.{first_one}
+use Rattle.image.specs.Nodes.{kind_of, operands}
 use Rattle.enter.proofs.behind_first.Tie as tie
 
 returns : tie.Need-returns

@@ -75,7 +75,7 @@ same-length-7 : tie.Need-same-length-7
 same-length-7 c = search rules
 
 returns-7 : tie.Need-returns-7
-returns-7 c = let p = c.before.before.before.before.before.before.before.before.before.before.before.before.before.requires in c.before.before.enter-while.ensures _ _ p.2 (omega (arith, c.before.before.before.before.before.if2.false)) p.3
+returns-7 c = let p = c.before.before.before.before.before.before.before.before.before.before.before.before.before.requires in c.before.before.enter-while.ensures _ _ _ p.2 (omega (arith, c.before.before.before.before.before.if2.false)) p.3
 
 same-length-8 : tie.Need-same-length-8
 same-length-8 c = search rules

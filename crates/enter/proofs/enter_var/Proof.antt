@@ -1,8 +1,7 @@
 -- `enter::enter_var` meets its contract.
 use Rattle.enter.proofs.enter_var.Statement.{statement}
-use Rattle.pushes.specs.EnterLaws.{holds_at, still}
+use Rattle.pushes.specs.EnterLaws.{holds_at}
 use Rattle.room.specs.Nodes.{var_halts, var_local, var_steps}
-use Rattle.room.specs.Rest.{resting, steps_alone}
 use borrow.Author.Rules.{rules}
 use mathlib.Core.Path.{refl}
 use native.Mathlib.Omega.{arith}
@@ -27,8 +26,7 @@ returns : tie.Need-returns
 returns c = let p = c.before.before.before.before.before.requires in λ D hs may inv low h. (var_halts _ p.0.nodes D hs _ _ _ inv low p.3 (rw (← c.before.before.node-word.ensures) c.if1.true), refl)
 
 returns-2 : tie.Need-returns-2
-unfolding resting steps_alone
-returns-2 c = let p = c.before.before.before.before.before.requires in λ D hs may inv low h. still (var_steps _ p.0.nodes D hs _ _ _ inv _ low p.3 (rw (← c.before.before.node-word.ensures) (omega (arith, c.if1.false))) h) (rw p.3)
+returns-2 c = let p = c.before.before.before.before.before.requires in λ D hs may inv low h. (var_steps _ p.0.nodes D hs _ _ _ inv _ low p.3 (rw (← c.before.before.node-word.ensures) (omega (arith, c.if1.false))) h, λ e. refl)
 
 pub enter_var_spec : {M : Type 1} → statement M
 enter_var_spec =

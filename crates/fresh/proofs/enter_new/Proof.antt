@@ -1,12 +1,14 @@
 -- `fresh::enter_new` meets its contract.
+use Prim.Native.Nat.{ℕ}
 use Rattle.fresh.proofs.enter_new.Statement.{statement}
+use Rattle.pushes.specs.EnterLaws.{holds_at}
 use Rattle.fresh.specs.NewLaws.{new_could, new_full, new_opens, new_steps, new_throws}
 use Rattle.objects.specs.Made.{Opens}
-use Rattle.pushes.specs.EnterLaws.{allowed, holds_at, refused, still}
 use Rattle.room.specs.Nodes.{new_class}
-use Rattle.room.specs.Rest.{resting, steps_alone}
 use borrow.Author.Rules.{rules}
 use borrow.Author.Tests.{not-false, not-true}
+use mathlib.Core.Bool.{false, true}
+use mathlib.Core.Path.{◌∙◌, ◌≡◌, refl, sym}
 use native.Mathlib.Numerals.{add-one}
 use native.Mathlib.Omega.{arith}
 use Rattle.fresh.proofs.enter_new.Tie as tie
@@ -27,8 +29,7 @@ same_length : tie.Need-same-length
 same_length c = search rules
 
 returns : tie.Need-returns
-unfolding resting steps_alone
-returns c = let p = c.before.before.before.before.before.before.before.before.before.before.before.before.requires in λ D inv low. refused (new_could _ p.0.nodes D _ _ _ _ inv low p.4 p.5 _ _ (new_opens _ _ _ p.5 _ _ (rw c.before.before.a.given.1 at c.before.before.before.before.lowest_free_lem.ensures))) (not-true _ c.if1.true) (rw p.4)
+returns c = let p = c.before.before.before.before.before.before.before.before.before.before.before.before.requires in λ D inv low. (new_could _ p.0.nodes D _ _ _ _ inv low p.4 p.5 _ _ (new_opens _ _ _ p.5 _ _ (rw c.before.before.a.given.1 at c.before.before.before.before.lowest_free_lem.ensures)), not-true _ c.if1.true, refl)
 
 node-word-requires : tie.Need-node-word-requires
 node-word-requires c κs = search rules
@@ -52,8 +53,7 @@ same-length-2 : tie.Need-same-length-2
 same-length-2 c = search rules
 
 returns-2 : tie.Need-returns-2
-unfolding resting steps_alone
-returns-2 c = let p = c.before.before.before.before.before.before.before.before.before.before.requires in λ D inv low. still (new_throws _ p.0.nodes D _ _ _ _ inv low p.4 p.5 (new_full _ _ _ p.5 _ (rw c.enum_told.given.1 at c.before.before.lowest_free_lem.ensures))) (rw p.4)
+returns-2 c = let p = c.before.before.before.before.before.before.before.before.before.before.requires in λ D inv low. (new_throws _ p.0.nodes D _ _ _ _ inv low p.4 p.5 (new_full _ _ _ p.5 _ (rw c.enum_told.given.1 at c.before.before.lowest_free_lem.ensures)), λ e. refl)
 
 same-length-3 : tie.Need-same-length-3
 same-length-3 c = search rules
@@ -62,7 +62,7 @@ same-length-4 : tie.Need-same-length-4
 same-length-4 c = search rules
 
 returns-3 : tie.Need-returns-3
-returns-3 c = let p = c.before.before.before.before.before.before.before.before.before.before.before.before.before.before.before.before.before.requires in λ D inv low. allowed (rw (add-one c.before.before.before.before.before.before.before.a.given.0.0) (new_steps _ p.0.nodes D _ _ _ _ inv low p.4 p.5 _ _ (new_opens _ _ _ p.5 _ _ (rw c.before.before.before.before.before.before.before.a.given.1 at c.before.before.before.before.before.before.before.before.before.lowest_free_lem.ensures)) _ (rw c.before.before.before.before.node-word.ensures at c.before.before.new-object.ensures))) (not-false _ c.before.before.before.before.before.if1.false)
+returns-3 c = let p = c.before.before.before.before.before.before.before.before.before.before.before.before.before.before.before.before.before.requires in λ D inv low. (rw (add-one c.before.before.before.before.before.before.before.a.given.0.0) (new_steps _ p.0.nodes D _ _ _ _ inv low p.4 p.5 _ _ (new_opens _ _ _ p.5 _ _ (rw c.before.before.before.before.before.before.before.a.given.1 at c.before.before.before.before.before.before.before.before.before.lowest_free_lem.ensures)) _ (rw c.before.before.before.before.node-word.ensures at c.before.before.new-object.ensures)), λ e. absurd (let z : true ≡ false = sym (not-false _ c.before.before.before.before.before.if1.false) ∙ e in let y : ◌≡◌ {A = ℕ} 0 1 = cc in omega arith))
 
 pub enter_new_spec : {M : Type 1} → statement M
 enter_new_spec =

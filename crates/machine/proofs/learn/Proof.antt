@@ -38,7 +38,7 @@ sub-learn-thrown c = search rules
 
 -- src/lib.rt:377:32
 learn-thrown-requires : tie.Need-learn-thrown-requires
-learn-thrown-requires c κs = let e : c.before.before.before.before.before.before.before.before.before.before.args.l ≡ suc (c.before.before.before.before.before.before.before.before.before.before.args.l - 1) = omega (arith, c.before.before.before.before.if1.false) in (c.before.before.before.before.before.before.before.before.before.before.requires.0, c.before.before.before.before.before.before.before.before.before.before.requires.2, rw e at c.before.before.before.before.before.before.before.before.before.before.requires.3, (rw c.before.before.f2.given.1 at c.before.before.before.before.before.before.before.before.before.before.requires.4).0, c.before.before.before.before.before.before.before.before.before.before.requires.5)
+learn-thrown-requires c κs = let e : c.before.before.before.before.before.before.before.before.before.before.args.l ≡ suc (c.before.before.before.before.before.before.before.before.before.before.args.l - 1) = omega (arith, c.before.before.before.before.if1.false) in (c.before.before.before.before.before.before.before.before.before.before.requires.0, c.before.before.before.before.before.before.before.before.before.before.requires.2, rw e at c.before.before.before.before.before.before.before.before.before.before.requires.3, rw c.before.before.f2.given.1 at c.before.before.before.before.before.before.before.before.before.before.requires.4, c.before.before.before.before.before.before.before.before.before.before.requires.5)
 
 -- src/lib.rt:358:1
 returns-2 : tie.Need-returns-2

@@ -2,12 +2,14 @@ use borrow.Author.Rules.{rules}
 use native.Mathlib.Omega.{arith}
 use mathlib.Core.Path.{◌≡◌, ◌∙◌, refl, sym}
 use lib.ListN.{length}
-use Rattle.room.specs.Leads.{state_at}
+use Rattle.rules.specs.Run.{run}
+use Rattle.rules.specs.Program.{program}
+use Rattle.rules.specs.Heap.{heap_of}
+use Rattle.room.specs.Turn.{outside, whole}
 use Rattle.memo.specs.Memo.{Memo}
-use Rattle.machine.specs.LedLaws.{reached, reached_less}
+use Rattle.machine.specs.LedLaws.{led, led_less}
 use Rattle.machine.specs.NextLaws.{goes_on, at_end}
-use Rattle.machine.specs.Runs.{Running, started, ran_on}
-use Rattle.strides.specs.ReachLaws.{fuel}
+use Rattle.machine.specs.Runs.{Running, left}
 use Prim.Native.Nat.{suc, ◌+◌, ◌-◌, ◌≤◌}
 use Rattle.machine.proofs.run_with.Statement.{statement}
 use Rattle.machine.proofs.run_with.Tie as tie
@@ -21,14 +23,14 @@ use Rattle.machine.proofs.onward.Reads as onward-reads
 use Rattle.turns.proofs.turn.Reads as turn-reads
 
 abbrev invariant-loop : tie.invariant-loop
-invariant-loop ws lay counts types heap₀ room₀ memo₀ depth limit from taken focus₀ level₀ count₀ heap room memo focus level count = Running ws depth limit taken (state_at ws heap₀ room₀ from focus₀) heap₀ room₀ heap room level focus count × Memo ws memo × (length memo ≡ length memo₀)
+invariant-loop ws lay counts types heap₀ room₀ memo₀ depth limit from taken focus₀ level₀ count₀ heap room memo focus level count = Running ws depth limit (run depth (program ws) (limit - taken) taken (heap_of (program ws) heap₀) (outside ws room₀ from) (whole ws room₀ from focus₀)) heap₀ room₀ heap room level focus count × Memo ws memo × (length memo ≡ length memo₀)
 
 abbrev decreases-loop : tie.decreases-loop
-decreases-loop ws lay counts types heap₀ room₀ memo₀ depth limit from taken focus₀ level₀ count₀ heap room memo focus level count = fuel ws depth (limit - count) room level focus
+decreases-loop ws lay counts types heap₀ room₀ memo₀ depth limit from taken focus₀ level₀ count₀ heap room memo focus level count = left ws depth limit count room level focus
 
 -- src/lib.rt:466:5
 loop-holds : tie.Need-loop-init invariant-loop decreases-loop
-loop-holds c = (started _ _ c.before.before.before.before.before.before.requires.2 c.before.before.before.before.before.before.requires.3 c.before.before.before.before.before.before.requires.5, c.before.before.before.before.before.before.requires.4, refl)
+loop-holds c = (record { inv = c.before.before.before.before.before.before.requires.2; heap = c.before.before.before.before.before.before.requires.3; low = c.before.before.before.before.before.before.requires.5; size = refl; heap_size = refl; rest = refl }, c.before.before.before.before.before.before.requires.4, refl)
 
 -- src/lib.rt:467:9
 learn-requires : tie.Need-learn-requires invariant-loop decreases-loop
@@ -64,7 +66,7 @@ same-length-3 c = c.before.before.before.before.before.before.before.before.befo
 
 -- src/lib.rt:472:17
 returns : tie.Need-returns invariant-loop decreases-loop
-returns c = let n = sym c.before.before.before.next_of.ensures ∙ c.before.enum_told.given.1 in let g = c.before.before.before.before.before.before.before.before.before.before.before.before.before.before.before.before.before.loop.invariant.0 in rw c.ended.ensures (ran_on _ _ g (rw n at (at_end _ _ c.before.before.before.before.before.before.before.before.before.before.before.before.before.before.before.before.before.before.before.before.before.before.before.before.args.limit c.before.before.before.before.before.before.before.before.before.before.before.before.before.before.before.before.before.loop.count g.inv g.heap c.before.before.before.before.before.before.before.before.turn.new.1.1.1.1.0 c.before.before.before.before.before.before.before.before.turn.new.1.1.1.1.1.0 c.before.before.before.before.before.room.given c.before.before.before.before.before.before.before.before.turn.result c.before.before.before.before.before.before.before.before.turn.ensures)))
+returns c = let n = sym c.before.before.before.next_of.ensures ∙ c.before.enum_told.given.1 in (rw n at (at_end _ c.before.before.before.before.before.before.before.before.before.before.before.before.before.before.before.before.before.before.before.before.before.before.before.before.requires.0.nodes _ c.before.before.before.before.before.before.before.before.before.before.before.before.before.before.before.before.before.loop.invariant.0 c.before.before.before.before.before.before.before.before.turn.new.1.1.1.1.0 c.before.before.before.before.before.before.before.before.turn.new.1.1.1.1.1.0 c.before.before.before.before.before.before.before.before.turn.result c.before.before.before.before.before.before.before.before.turn.ensures c.ended.result c.ended.ensures), c.before.before.before.before.before.room.given ∙ c.before.before.before.before.before.before.before.before.before.before.before.before.before.before.before.before.before.loop.invariant.0.size)
 
 -- src/lib.rt:474:22
 enum-known-f : tie.Need-enum-known-f invariant-loop decreases-loop
@@ -88,11 +90,11 @@ sub-count c = omega (arith, c.before.before.before.before.before.before.onward.e
 
 -- src/lib.rt:466:5
 loop-less : tie.Need-loop-smaller invariant-loop decreases-loop
-loop-less c = let n = sym c.before.before.before.before.before.before.before.before.before.before.before.before.before.next_of.ensures ∙ c.before.before.before.before.before.before.before.before.before.before.before.f.given.1 in let o = rw n at (goes_on _ c.before.before.before.before.before.before.before.before.before.before.before.before.before.before.before.before.before.before.before.before.before.before.before.before.before.before.before.before.before.before.before.before.before.before.requires.0.nodes _ c.before.before.before.before.before.before.before.before.before.before.before.before.before.before.before.before.before.before.before.before.before.before.before.before.before.before.before.loop.invariant.0 c.before.before.before.before.before.before.before.before.before.before.before.before.before.before.before.before.before.before.turn.new.1.1.1.1.0 c.before.before.before.before.before.before.before.before.before.before.before.before.before.before.before.before.before.before.turn.new.1.1.1.1.1.0 c.before.before.before.before.before.before.before.before.before.before.before.before.before.before.before.before.before.before.turn.result c.before.before.before.before.before.before.before.before.before.before.before.before.before.before.before.before.before.before.turn.ensures c.before.before.before.before.before.before.before.before.before.before.before.before.before.before.before.before.before.heap.given) in rw c.before.focus-of.ensures (omega (arith, reached_less _ c.before.before.before.before.before.before.before.before.before.before.before.before.before.before.before.before.before.before.before.before.before.before.before.before.before.before.before.before.before.before.before.before.before.before.requires.0.nodes _ _ _ c.before.before.before.before.before.before.onward.ensures, o.1))
+loop-less c = let n = sym c.before.before.before.before.before.before.before.before.before.before.before.before.before.next_of.ensures ∙ c.before.before.before.before.before.before.before.before.before.before.before.f.given.1 in let o = rw n at (goes_on _ c.before.before.before.before.before.before.before.before.before.before.before.before.before.before.before.before.before.before.before.before.before.before.before.before.before.before.before.before.before.before.before.before.before.before.requires.0.nodes _ c.before.before.before.before.before.before.before.before.before.before.before.before.before.before.before.before.before.before.before.before.before.before.before.before.before.before.before.loop.invariant.0 c.before.before.before.before.before.before.before.before.before.before.before.before.before.before.before.before.before.before.turn.new.1.1.1.1.0 c.before.before.before.before.before.before.before.before.before.before.before.before.before.before.before.before.before.before.turn.new.1.1.1.1.1.0 c.before.before.before.before.before.before.before.before.before.before.before.before.before.before.before.before.before.before.turn.result c.before.before.before.before.before.before.before.before.before.before.before.before.before.before.before.before.before.before.turn.ensures c.before.before.before.before.before.before.before.before.before.before.before.before.before.before.before.before.before.heap.given) in rw c.before.focus-of.ensures (omega (arith, led_less _ c.before.before.before.before.before.before.before.before.before.before.before.before.before.before.before.before.before.before.before.before.before.before.before.before.before.before.before.before.before.before.before.before.before.before.requires.0.nodes _ _ _ c.before.before.before.before.before.before.onward.ensures, o.1))
 
 -- src/lib.rt:466:5
 loop-again : tie.Need-loop-preserved invariant-loop decreases-loop
-loop-again c = let n = sym c.before.before.before.before.before.before.before.before.before.before.before.before.before.next_of.ensures ∙ c.before.before.before.before.before.before.before.before.before.before.before.f.given.1 in let o = rw n at (goes_on _ c.before.before.before.before.before.before.before.before.before.before.before.before.before.before.before.before.before.before.before.before.before.before.before.before.before.before.before.before.before.before.before.before.before.before.requires.0.nodes _ c.before.before.before.before.before.before.before.before.before.before.before.before.before.before.before.before.before.before.before.before.before.before.before.before.before.before.before.loop.invariant.0 c.before.before.before.before.before.before.before.before.before.before.before.before.before.before.before.before.before.before.turn.new.1.1.1.1.0 c.before.before.before.before.before.before.before.before.before.before.before.before.before.before.before.before.before.before.turn.new.1.1.1.1.1.0 c.before.before.before.before.before.before.before.before.before.before.before.before.before.before.before.before.before.before.turn.result c.before.before.before.before.before.before.before.before.before.before.before.before.before.before.before.before.before.before.turn.ensures c.before.before.before.before.before.before.before.before.before.before.before.before.before.before.before.before.before.heap.given) in (rw c.before.focus-of.ensures (reached _ _ o.0 c.before.before.before.before.before.before.onward.ensures c.before.before.before.before.before.heap2.given), c.before.before.before.before.before.before.before.before.before.before.before.before.before.before.before.before.before.before.before.before.before.before.before.learn.ensures, c.before.before.before.before.before.before.before.before.before.before.before.before.before.before.before.before.before.before.before.before.before.before.memo.given ∙ c.before.before.before.before.before.before.before.before.before.before.before.before.before.before.before.before.before.before.before.before.before.before.before.before.before.before.before.loop.invariant.2)
+loop-again c = let n = sym c.before.before.before.before.before.before.before.before.before.before.before.before.before.next_of.ensures ∙ c.before.before.before.before.before.before.before.before.before.before.before.f.given.1 in let o = rw n at (goes_on _ c.before.before.before.before.before.before.before.before.before.before.before.before.before.before.before.before.before.before.before.before.before.before.before.before.before.before.before.before.before.before.before.before.before.before.requires.0.nodes _ c.before.before.before.before.before.before.before.before.before.before.before.before.before.before.before.before.before.before.before.before.before.before.before.before.before.before.before.loop.invariant.0 c.before.before.before.before.before.before.before.before.before.before.before.before.before.before.before.before.before.before.turn.new.1.1.1.1.0 c.before.before.before.before.before.before.before.before.before.before.before.before.before.before.before.before.before.before.turn.new.1.1.1.1.1.0 c.before.before.before.before.before.before.before.before.before.before.before.before.before.before.before.before.before.before.turn.result c.before.before.before.before.before.before.before.before.before.before.before.before.before.before.before.before.before.before.turn.ensures c.before.before.before.before.before.before.before.before.before.before.before.before.before.before.before.before.before.heap.given) in (rw c.before.focus-of.ensures (led _ c.before.before.before.before.before.before.before.before.before.before.before.before.before.before.before.before.before.before.before.before.before.before.before.before.before.before.before.before.before.before.before.before.before.before.requires.0.nodes _ o.0 _ refl c.before.before.before.before.before.before.onward.ensures c.before.before.before.before.before.heap2.given), c.before.before.before.before.before.before.before.before.before.before.before.before.before.before.before.before.before.before.before.before.before.before.before.learn.ensures, c.before.before.before.before.before.before.before.before.before.before.before.before.before.before.before.before.before.before.before.before.before.before.memo.given ∙ c.before.before.before.before.before.before.before.before.before.before.before.before.before.before.before.before.before.before.before.before.before.before.before.before.before.before.before.loop.invariant.2)
 
 pub run_with_spec : {M : Type 1} → statement M
 run_with_spec =

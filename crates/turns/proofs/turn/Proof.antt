@@ -61,7 +61,7 @@ same-length-6 : tie.Need-same-length-6
 same-length-6 c = search rules
 
 returns-5 : tie.Need-returns-5
-returns-5 c = let e : suc (c.before.before.before.before.before.before.before.before.before.before.before.before.before.before.args.l - 1) ≡ c.before.before.before.before.before.before.before.before.before.before.before.before.before.before.args.l = omega (arith, c.before.before.before.before.before.if2.false) in rw c.before.before.before.before.before.before.before.f3.given.1 (rw e at c.before.before.unwind.ensures)
+returns-5 c = let e : suc (c.before.before.before.before.before.before.before.before.before.before.before.before.before.before.args.l - 1) ≡ c.before.before.before.before.before.before.before.before.before.before.before.before.before.before.args.l = omega (arith, c.before.before.before.before.before.if2.false) in rw c.before.before.before.before.before.before.before.f3.given.1 (rw e at (c.before.before.unwind.ensures c.before.before.before.before.before.before.before.before.before.before.before.before.before.before.args.may))
 
 pub turn_spec : {M : Type 1} → statement M
 turn_spec =

@@ -28,7 +28,7 @@ same-length-2 : tie.Need-same-length-2
 same-length-2 c = search rules
 
 returns : tie.Need-returns
-returns c = c.before.before.back-call.ensures
+returns c = c.before.before.back-call.ensures c.before.before.before.before.before.before.before.before.before.before.before.args.may
 
 same-length-3 : tie.Need-same-length-3
 same-length-3 c = search rules

@@ -1,11 +1,8 @@
 -- `unwind::unwind` meets its contract.
-use Rattle.pushes.specs.EnterLaws.{allowed, could, refused, still}
-use Rattle.room.specs.Rest.{resting}
 use Rattle.room.specs.RoomLaws.{fit_variable}
 use Rattle.room.specs.Unwind.{leave_steps, pass_steps}
 use Rattle.unwind.proofs.unwind.Statement.{statement}
 use borrow.Author.Rules.{rules}
-use borrow.Author.Tests.{not-false, not-true}
 use mathlib.Core.Path.{refl}
 use native.Mathlib.Omega.{arith}
 use Rattle.unwind.proofs.unwind.Tie as tie
@@ -31,10 +28,6 @@ mul-match c = search rules
 slice-read-match : tie.Need-slice-read-match
 slice-read-match c = search rules
 
-returns : tie.Need-returns
-unfolding resting
-returns c = let p = c.before.before.before.before.before.before.before.requires in refused (could (leave_steps _ p.0.nodes _ _ _ _ _ _ p.1 p.2 c.before.match.keys1)) (not-true _ c.if1.true) refl
-
 add-x : tie.Need-overflow-add-x
 add-x c = search rules
 
@@ -54,10 +47,10 @@ slice-read-room : tie.Need-slice-read-room
 slice-read-room c = search rules
 
 mul-room-2 : tie.Need-overflow-mul-room-2
-mul-room-2 c = let p = c.before.before.before.before.before.before.before.before.before.requires in let v = fit_variable p.1.fit c.before.before.before.match.keys1 in omega (arith, v)
+mul-room-2 c = let p = c.before.before.before.before.before.before.before.before.requires in let v = fit_variable p.1.fit c.before.before.match.keys1 in omega (arith, v)
 
 slice-write-room : tie.Need-slice-write-room
-slice-write-room c = let p = c.before.before.before.before.before.before.before.before.before.requires in let v = fit_variable p.1.fit c.before.before.before.match.keys1 in omega (arith, v, p.1.long)
+slice-write-room c = let p = c.before.before.before.before.before.before.before.before.requires in let v = fit_variable p.1.fit c.before.before.match.keys1 in omega (arith, v, p.1.long)
 
 unwind-try-requires : tie.Need-unwind-try-requires
 unwind-try-requires c κs = search rules
@@ -65,18 +58,17 @@ unwind-try-requires c κs = search rules
 same_length : tie.Need-same-length
 same_length c = search rules
 
-returns-2 : tie.Need-returns-2
-returns-2 c = let p = c.before.before.before.before.before.before.before.before.before.requires in allowed (leave_steps _ p.0.nodes _ _ _ _ _ _ p.1 p.2 c.before.before.before.match.keys1) (not-false _ c.before.before.if1.false)
+returns : tie.Need-returns
+returns c = let p = c.before.before.before.before.before.before.before.before.requires in λ may. (leave_steps _ p.0.nodes _ _ _ _ _ _ p.1 p.2 c.before.before.match.keys1, λ e. refl)
 
 same-length-2 : tie.Need-same-length-2
 same-length-2 c = search rules
 
-returns-3 : tie.Need-returns-3
-returns-3 c = search rules
+returns-2 : tie.Need-returns-2
+returns-2 c = search rules
 
-returns-4 : tie.Need-returns-4
-unfolding resting
-returns-4 c = let p = c.before.before.before.before.before.before.requires in still (pass_steps _ p.0.nodes _ _ _ _ _ _ p.1 p.2 c.match.rest.0.1 c.match.rest.1) refl
+returns-3 : tie.Need-returns-3
+returns-3 c = let p = c.before.before.before.before.before.before.requires in λ may. (pass_steps _ p.0.nodes _ _ _ _ _ _ p.1 p.2 c.match.rest.0.1 c.match.rest.1, λ e. refl)
 
 pub unwind_spec : {M : Type 1} → statement M
 unwind_spec =
@@ -89,7 +81,6 @@ unwind_spec =
     slice-read-p
     mul-match
     slice-read-match
-    returns
     add-x
     mul-x
     slice-read-x
@@ -100,7 +91,7 @@ unwind_spec =
     slice-write-room
     unwind-try-requires
     same_length
-    returns-2
+    returns
     same-length-2
-    returns-3
-    returns-4)
+    returns-2
+    returns-3)

@@ -1,15 +1,12 @@
 -- `unwind::unwind_try` meets its contract.
 use Prim.Native.Nat.{◌*◌, ◌+◌, ◌^◌}
 use Rattle.laws.specs.Tags.{address_word}
-use Rattle.pushes.specs.EnterLaws.{allowed, could, refused, still}
 use Rattle.room.specs.Nodes.{try_local}
-use Rattle.room.specs.Rest.{resting}
 use Rattle.room.specs.Unwind.{catch_steps, halt_try, is_try, pass_try}
 use Rattle.rules.specs.Trees.{operand}
 use Rattle.unwind.proofs.unwind_try.Statement.{statement}
 use Rattle.unwind.specs.UnwindLaws.{try_after}
 use borrow.Author.Rules.{rules}
-use borrow.Author.Tests.{not-false, not-true}
 use mathlib.Core.Path.{refl}
 use native.Mathlib.Numerals.{add-one}
 use native.Mathlib.Omega.{arith}
@@ -27,12 +24,8 @@ catch-redex-requires c κs = search rules
 enum_told : tie.Need-enum-told
 enum_told c = search rules
 
-returns : tie.Need-returns
-unfolding resting
-returns c = let p = c.before.before.before.before.before.before.before.before.requires in let k = rw (c.before.enum_told.given.1, c.before.before.before.before.node-word.ensures, p.4) at c.before.before.before.catch-redex.ensures in refused (could (catch_steps _ p.0.nodes _ _ _ _ _ _ p.1 p.2 p.3 _ (address_word _ p.1.here.0).1 (address_word _ p.1.here.0).0 (k _ _ _ _))) (not-true _ c.if1.true) refl
-
 node-word-requires-2 : tie.Need-node-word-requires-2
-node-word-requires-2 c κs = let p = c.before.before.before.before.before.before.before.before.requires in (p.0.lay, rw (p.4, p.0.lay.node_count_lem) (is_try _ p.0.nodes _ _ _ _ _ _ p.1 p.2 p.3).0, omega arith)
+node-word-requires-2 c κs = let p = c.before.before.before.before.before.before.before.requires in (p.0.lay, rw (p.4, p.0.lay.node_count_lem) (is_try _ p.0.nodes _ _ _ _ _ _ p.1 p.2 p.3).0, omega arith)
 
 cast-x : tie.Need-overflow-cast-x
 cast-x c = search rules
@@ -47,13 +40,13 @@ add-push-block-3 : tie.Need-overflow-add-push-block-3
 add-push-block-3 c = search rules
 
 push-block-requires : tie.Need-push-block-requires
-push-block-requires c κs = let p = c.before.before.before.before.before.before.before.before.before.before.requires in let n = is_try _ p.0.nodes _ _ _ _ _ _ p.1 p.2 p.3 in (omega (arith, p.1.long, p.1.level), rw (c.before.node-word2.ensures, p.4) (try_local _ _ (p.0.nodes _ n.0) n.1))
+push-block-requires c κs = let p = c.before.before.before.before.before.before.before.before.before.requires in let n = is_try _ p.0.nodes _ _ _ _ _ _ p.1 p.2 p.3 in (omega (arith, p.1.long, p.1.level), rw (c.before.node-word2.ensures, p.4) (try_local _ _ (p.0.nodes _ n.0) n.1))
 
-sub-t26 : tie.Need-overflow-sub-t26
-sub-t26 c = let p = c.before.before.before.before.before.before.before.before.before.before.before.before.before.requires in let n = is_try _ p.0.nodes _ _ _ _ _ _ p.1 p.2 p.3 in rw p.4 (try_after _ _ (p.0.nodes _ n.0) n.1)
+sub-t24 : tie.Need-overflow-sub-t24
+sub-t24 c = let p = c.before.before.before.before.before.before.before.before.before.before.before.before.requires in let n = is_try _ p.0.nodes _ _ _ _ _ _ p.1 p.2 p.3 in rw p.4 (try_after _ _ (p.0.nodes _ n.0) n.1)
 
-add-t28 : tie.Need-overflow-add-t28
-add-t28 c = search rules
+add-t26 : tie.Need-overflow-add-t26
+add-t26 c = search rules
 
 enum-told-2 : tie.Need-enum-told-2
 enum-told-2 c = search rules
@@ -64,16 +57,15 @@ enum-told-3 c = search rules
 same_length : tie.Need-same-length
 same_length c = search rules
 
-returns-2 : tie.Need-returns-2
+returns : tie.Need-returns
 unfolding operand
-returns-2 c = let p = c.before.before.before.before.before.before.before.before.before.before.before.before.before.requires in let k = rw (c.before.before.before.before.before.before.enum_told.given.1, c.before.before.before.before.before.before.before.before.before.node-word.ensures, p.4) at c.before.before.before.before.before.before.before.before.catch-redex.ensures in allowed (rw (c.before.before.push-block.ensures, c.before.before.before.before.node-word2.ensures, c.before.before.before.before.before.before.before.before.before.node-word.ensures, p.4, add-one c.before.before.before.before.before.before.before.before.before.before.before.before.before.args.i, add-one (4 * 2 ^ 32 + c.before.before.before.before.before.before.before.before.before.before.before.before.before.args.a)) (catch_steps _ p.0.nodes _ _ _ _ _ _ p.1 p.2 p.3 _ (address_word _ p.1.here.0).1 (address_word _ p.1.here.0).0 (k _ _ _ _))) (not-false _ c.before.before.before.before.before.if1.false)
+returns c = let p = c.before.before.before.before.before.before.before.before.before.before.before.before.requires in let k = rw (c.before.before.before.before.before.enum_told.given.1, c.before.before.before.before.before.before.before.before.node-word.ensures, p.4) at c.before.before.before.before.before.before.before.catch-redex.ensures in λ may. (rw (c.before.before.push-block.ensures, c.before.before.before.before.node-word2.ensures, c.before.before.before.before.before.before.before.before.node-word.ensures, p.4, add-one c.before.before.before.before.before.before.before.before.before.before.before.before.args.i, add-one (4 * 2 ^ 32 + c.before.before.before.before.before.before.before.before.before.before.before.before.args.a)) (catch_steps _ p.0.nodes _ _ _ _ _ _ p.1 p.2 p.3 _ (address_word _ p.1.here).1 (address_word _ p.1.here).0 (k _ _ _ _)), λ e. refl)
+
+returns-2 : tie.Need-returns-2
+returns-2 c = let p = c.before.before.before.before.before.before.before.requires in let k = rw (c.enum-told2.given.1, c.before.before.before.node-word.ensures, p.4) at c.before.before.catch-redex.ensures in λ may. (rw p.4 (pass_try _ p.0.nodes _ _ _ _ _ _ p.1 p.2 p.3 (k _ _ _ _)), λ e. refl)
 
 returns-3 : tie.Need-returns-3
-unfolding resting
-returns-3 c = let p = c.before.before.before.before.before.before.before.requires in let k = rw (c.enum-told2.given.1, c.before.before.before.node-word.ensures, p.4) at c.before.before.catch-redex.ensures in still (rw p.4 (pass_try _ p.0.nodes _ _ _ _ _ _ p.1 p.2 p.3 (k _ _ _ _))) refl
-
-returns-4 : tie.Need-returns-4
-returns-4 c = let p = c.before.before.before.before.before.before.before.requires in let k = rw (c.enum-told3.given.1, c.before.before.before.node-word.ensures, p.4) at c.before.before.catch-redex.ensures in (rw p.4 (halt_try _ p.0.nodes _ _ _ _ _ _ p.1 p.2 p.3 (k _ _ _ _)), refl)
+returns-3 c = let p = c.before.before.before.before.before.before.before.requires in let k = rw (c.enum-told3.given.1, c.before.before.before.node-word.ensures, p.4) at c.before.before.catch-redex.ensures in λ may. (rw p.4 (halt_try _ p.0.nodes _ _ _ _ _ _ p.1 p.2 p.3 (k _ _ _ _)), refl)
 
 pub unwind_try_spec : {M : Type 1} → statement M
 unwind_try_spec =
@@ -83,18 +75,17 @@ unwind_try_spec =
     cast-c
     catch-redex-requires
     enum_told
-    returns
     node-word-requires-2
     cast-x
     add-push-block
     add-push-block-2
     add-push-block-3
     push-block-requires
-    sub-t26
-    add-t28
+    sub-t24
+    add-t26
     enum-told-2
     enum-told-3
     same_length
+    returns
     returns-2
-    returns-3
-    returns-4)
+    returns-3)

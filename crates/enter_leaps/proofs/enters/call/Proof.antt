@@ -67,7 +67,7 @@ sub-j : tie.Need-overflow-sub-j
 sub-j c = search rules
 
 push-blocks-requires : tie.Need-push-blocks-requires
-push-blocks-requires c κs = let p = c.before.before.before.before.before.before.before.before.before.before.before.before.before.before.before.requires in let r = c.before.before.before.before.before.before.before.gather.ensures.2 c.before.before.before.before.if2.false in let k = c.before.before.before.before.before.before.before.gather.ensures.0 in let t = c.before.before.method.ensures _ p.3 p.2.words (p.1.here, p.5) c.before.if3.false in (p.0, callable _ p.0.nodes _ _ _ _ _ _ p.1 p.2 p.4 p.5 k _ _ c.before.before.before.before.before.before.before.before.before.before.word_at.ensures r _ _ t (omega (arith, c.before.before.before.before.before.before.before.before.before.if1.false)), (p.1.here, p.5))
+push-blocks-requires c κs = let p = c.before.before.before.before.before.before.before.before.before.before.before.before.before.before.before.requires in let r = c.before.before.before.before.before.before.before.gather.ensures.2 c.before.before.before.before.if2.false in let k = c.before.before.before.before.before.before.before.gather.ensures.0 in let t = c.before.before.method.ensures _ p.3 p.2.words (p.1.here, p.5) c.before.if3.false in (p.0, callable _ p.0.nodes _ _ _ _ _ _ p.1 p.2 p.4 p.5 k _ _ c.before.before.before.before.before.before.before.before.before.before.word_at.ensures r _ _ t (omega (arith, c.before.before.before.before.before.before.before.before.before.if1.false)))
 
 method-word-requires : tie.Need-method-word-requires
 method-word-requires c κs = let p = c.before.before.before.before.before.before.before.before.before.before.before.before.before.before.before.before.before.before.requires in let t = c.before.before.before.before.before.method.ensures _ p.3 p.2.words (p.1.here, p.5) c.before.before.before.before.if3.false in (p.0.lay, rw p.0.lay.method_count_lem t.within, omega arith)
