@@ -10,6 +10,9 @@ use crate::questions;
 use crate::questions::Limits;
 use lines::{faults, print};
 use run::Told;
+use std::env::Env;
+use std::fs::Files;
+use std::io;
 
 // The number of the first end; a lower one is a refusal.
 const FIRST_END: u64 = 30;
@@ -19,73 +22,83 @@ const MOST_DEPTH: u64 = 1024;
 
 const MOST_ROOM: usize = 16544;
 
-pub fn answer() {
+// Kept out of `main`, so that the stack has the memory of one of the two ways alone.
+#[inline(never)]
+pub fn answer(rt: &(impl Env + Files + Print)) -> io::Result<()> {
     let mut name = [0u8; 8];
-    let n = os::arg(1, &mut name);
-    if check::same(&name[..n], b"run") && has_bad_limit() {
-        return;
+    let n = rt.arg(1, &mut name).unwrap_or(0);
+    if &name[..n] == b"run".as_slice() && has_bad_limit(rt)? {
+        return Ok(());
     }
     let mut space = files::space();
     let most = 524288;
     let mut words = cases::words();
-    let image = files::image(2, &mut space[0..most], &mut words);
-    if failed(image.fault, 2) {
-        return;
+    let image = files::image(rt, 2, &mut space[0..most], &mut words);
+    if failed(rt, image.fault, 2)? {
+        return Ok(());
     }
     let k = image.count;
-    ask(&name[..n], &words[..k]);
+    ask(rt, &name[..n], &words[..k])
 }
 
-fn has_bad_limit() -> bool {
-    let steps = files::number(5);
-    let depth = files::number(6);
-    failed(steps.fault, 5) || failed(depth.fault, 6)
+fn has_bad_limit(rt: &(impl Env + Print)) -> io::Result<bool> {
+    let steps = files::number(rt, 5);
+    let depth = files::number(rt, 6);
+    Ok(failed(rt, steps.fault, 5)? || failed(rt, depth.fault, 6)?)
 }
 
 // Tells of a fault, where there is one.
-fn failed(fault: u64, argument: u64) -> bool {
+fn failed(rt: &impl Print, fault: u64, argument: u64) -> io::Result<bool> {
     if fault == 0 {
-        return false;
+        return Ok(false);
     }
-    print::wrong(argument, faults::at_head(fault));
-    true
+    print::wrong(rt, argument, faults::at_head(fault))?;
+    Ok(true)
 }
 
-fn ask(question: &[u8], image: &[u32]) {
-    if check::same(question, b"check") {
-        print::name(question);
-        print::answer(questions::check(image));
-        return;
+fn ask(rt: &(impl Env + Files + Print), question: &[u8], image: &[u32]) -> io::Result<()> {
+    if question == b"check".as_slice() {
+        print::name(rt, question)?;
+        return print::answer(rt, questions::check(image));
     }
     let mut space = files::space();
     let mut words = cases::one_part();
-    let heap = files::words(3, &mut space, &mut words);
-    if failed(heap.fault, 3) {
-        return;
+    let heap = files::words(rt, 3, &mut space, &mut words);
+    if failed(rt, heap.fault, 3)? {
+        return Ok(());
     }
     let n = heap.count;
-    ask_on(question, image, &mut words[..n]);
+    ask_on(rt, question, image, &mut words[..n])
 }
 
-fn ask_on(question: &[u8], image: &[u32], heap: &mut [u64]) {
+fn ask_on(
+    rt: &(impl Env + Files + Print),
+    question: &[u8],
+    image: &[u32],
+    heap: &mut [u64],
+) -> io::Result<()> {
     let mut space = [0u8; 8192];
     let mut words = [0u64; 1024];
-    let inputs = files::words(4, &mut space, &mut words);
-    if failed(inputs.fault, 4) {
-        return;
+    let inputs = files::words(rt, 4, &mut space, &mut words);
+    if failed(rt, inputs.fault, 4)? {
+        return Ok(());
     }
     let n = inputs.count;
-    if check::same(question, b"conform") {
-        print::name(question);
-        print::answer(questions::conformity(image, heap, &words[..n]));
-        return;
+    if question == b"conform".as_slice() {
+        print::name(rt, question)?;
+        return print::answer(rt, questions::conformity(image, heap, &words[..n]));
     }
-    run_on(image, heap, &words[..n]);
+    run_on(rt, image, heap, &words[..n])
 }
 
-fn run_on(image: &[u32], heap: &mut [u64], inputs: &[u64]) {
-    let steps = files::number(5);
-    let depth = files::number(6);
+fn run_on(
+    rt: &(impl Env + Files + Print),
+    image: &[u32],
+    heap: &mut [u64],
+    inputs: &[u64],
+) -> io::Result<()> {
+    let steps = files::number(rt, 5);
+    let depth = files::number(rt, 6);
     let l = Limits {
         steps: steps.number,
         depth: depth.number,
@@ -93,16 +106,16 @@ fn run_on(image: &[u32], heap: &mut [u64], inputs: &[u64]) {
     let mut room = room_space();
     let n = room_words(l.depth);
     let t = questions::told(image, heap, inputs, &mut room[0..n], l);
-    end(t, heap);
+    end(rt, t, heap)
 }
 
 // What cannot be kept is an error, and then no answer is written.
-fn end(t: Told, heap: &[u64]) {
-    if FIRST_END <= t.number && failed(files::keep(7, heap), 7) {
-        return;
+fn end(rt: &(impl Env + Files + Print), t: Told, heap: &[u64]) -> io::Result<()> {
+    if FIRST_END <= t.number && failed(rt, files::keep(rt, 7, heap), 7)? {
+        return Ok(());
     }
-    print::name(b"run");
-    print::ran(t.number, t.place, t.count, t.value, &[]);
+    print::name(rt, b"run")?;
+    print::ran(rt, t.number, t.place, t.count, t.value, &[])
 }
 
 // The contract spares the prover to count the zeros.

@@ -1,3 +1,5 @@
+#![tactic(auto)]
+
 // Answers cases from standard input, one a line,
 //     check NAME | WORD WORD ..
 //     conform NAME | IMAGE WORD .. | HEAP WORD .. | INPUT ..
@@ -10,16 +12,18 @@
 mod arguments;
 mod questions;
 
-ghost use Rattle.std.specs.Prelude.{◌≡◌, ◌≤◌, ◌<◌, length};
+ghost use Rattle.std.specs.Prelude.{◌≡◌, ◌≤◌, ◌<◌, length, IfOk};
 ghost use Rattle.cases.specs.Kept.{Within};
 
 use cases::Line;
-use libc::STDIN_FILENO;
 use lines::{faults, print};
+use std::env::{Env, FillError};
+use std::io;
+use std::io::{Input, Read};
 
 // Where the reading stands: the line so far, how many bytes of the piece are read and how many there
 // are, and how many turns are left: 0 once the input has ended.
-#[derive(Drop)]
+#[derive(Clone, Copy)]
 struct Reader {
     line: Line,
     at: usize,
@@ -28,65 +32,70 @@ struct Reader {
 }
 
 // Reads a piece where there is none. The input's end counts as that of a line.
-fn fill(r: Reader, piece: &mut [u8]) -> Reader
+fn fill(rt: &impl Print, input: &mut impl Read, r: Reader, piece: &mut [u8]) -> io::Result<Reader>
     requires { (r.count ≤ length piece.old) × (0 < length piece.old) × (0 < r.left) }
-    ensures { (result.count ≤ length piece.old) × (0 < result.left) × (result.left ≤ r.left) × (result.line.head ≡ r.line.head) × (result.line.numbers ≡ r.line.numbers) × (result.line.bars ≡ r.line.bars) }
+    ensures { IfOk result (λ s. (s.count ≤ length piece.old) × (0 < s.left) × (s.left ≤ r.left) × (s.line.head ≡ r.line.head) × (s.line.numbers ≡ r.line.numbers) × (s.line.bars ≡ r.line.bars)) }
 {
     if r.at < r.count {
-        return r;
+        return Ok(r);
     }
-    let got = libc::read(STDIN_FILENO, piece);
     let mut s = r;
     s.at = 0;
-    s.count = io::count(got, piece);
-    if got > 0 {
-        return s;
+    match input.read(piece) {
+        Ok(0) => {
+            piece[0] = b'\n';
+            s.count = 1;
+            s.left = 1;
+        }
+        Ok(n) => s.count = n,
+        Err(_) => {
+            let line = r.line;
+            print::wrong(rt, line.number, faults::at_head(faults::NO_INPUT))?;
+            s.count = 0;
+            s.left = 1;
+        }
     }
-    s.left = 1;
-    if got < 0 {
-        let line = r.line;
-        print::wrong(line.number, faults::at_head(faults::NO_INPUT));
-        return s;
-    }
-    piece[0] = b'\n';
-    s.count = 1;
-    s
+    Ok(s)
 }
 
 // Reads on, to the end of the line or of the piece.
 fn take(
+    rt: &impl Print,
+    input: &mut impl Read,
     r: Reader,
     piece: &mut [u8],
     head: &mut [u8],
     numbers: &mut [u64],
     bars: &mut [usize; 16],
-) -> Reader
+) -> io::Result<Reader>
     requires { (r.count ≤ length piece.old) × (0 < length piece.old) × (0 < r.left) × Within r.line head.old numbers.old }
-    ensures { (result.count ≤ length piece.old) × (result.left < r.left) × Within result.line head.old numbers.old }
+    ensures { IfOk result (λ s. (s.count ≤ length piece.old) × (s.left < r.left) × Within s.line head.old numbers.old) }
 {
-    let filled = fill(r, piece);
+    let filled = fill(rt, input, r, piece)?;
     let line = filled.line;
     let n = filled.count;
     let reached = cases::read(line, &piece[0..n], filled.at, head, numbers, bars);
     let next = reached.line;
-    Reader {
+    Ok(Reader {
         line: next,
         at: reached.at,
         count: n,
         left: filled.left - 1,
-    }
+    })
 }
 
 // A proved loop has to end, and nothing says that the input does: the turns count down from a number
 // that no run uses up.
 fn read_all(
+    rt: &impl Print,
+    input: &mut impl Read,
     piece: &mut [u8],
     head: &mut [u8],
     numbers: &mut [u64],
     words: &mut [u32],
     inputs: &mut [u64],
     room: &mut [u64],
-)
+) -> io::Result<()>
     requires { 0 < length piece.old }
 {
     let mut bars = [0usize; 16];
@@ -97,33 +106,50 @@ fn read_all(
         left: u64::MAX,
     };
     while r.left > 0 {
-        r = take(r, piece, head, numbers, &mut bars);
+        r = take(rt, input, r, piece, head, numbers, &mut bars)?;
         let line = r.line;
-        questions::answer(line, head, numbers, &bars, words, inputs, room);
+        questions::answer(rt, line, head, numbers, &bars, words, inputs, room)?;
     }
+    Ok(())
 }
 
-fn main() {
-    if os::arg_count() > 1 {
-        arguments::answer();
-        return;
+fn main(rt: HostRuntime) -> io::Result<()> {
+    if has_arguments(&rt) {
+        return arguments::answer(&rt);
     }
-    answer_input();
+    answer_input(&rt)
 }
 
-fn answer_input() {
-    let mut piece = io::large_buffer();
+// Whether there are arguments beside the program's name. The first may be longer than its space.
+fn has_arguments(rt: &impl Env) -> bool {
+    !matches!(rt.arg(1, &mut [0u8; 1]), Err(FillError::NotPresent))
+}
+
+// Kept out of `main`, so that the stack has the memory of one of the two ways alone.
+#[inline(never)]
+fn answer_input(rt: &(impl Input + Print)) -> io::Result<()> {
+    let mut input = rt.reader();
+    let mut piece = piece_space();
     let mut head = [0u8; 96];
     let mut numbers = cases::numbers();
     let mut words = cases::words();
     let mut inputs = cases::one_part();
     let mut room = cases::one_part();
     read_all(
+        rt,
+        &mut input,
         &mut piece,
         &mut head,
         &mut numbers,
         &mut words,
         &mut inputs,
         &mut room,
-    );
+    )
+}
+
+// The contract spares the prover to count the zeros.
+fn piece_space() -> [u8; 65536]
+    ensures { 65536 ≡ length result }
+{
+    [0; 65536]
 }

@@ -6,10 +6,12 @@ use cases::Line;
 use lines::{heads, parts, print};
 use order::Answer;
 use run::Told;
+use std::io;
 
 // Answers a line that is whole and not empty. Its numbers are where the line has them; the image's words,
 // and what has to be lent beside the heap, go into memory of their own.
 pub fn answer(
+    rt: &impl Print,
     l: Line,
     head: &[u8],
     numbers: &mut [u64],
@@ -17,31 +19,32 @@ pub fn answer(
     words: &mut [u32],
     inputs: &mut [u64],
     room: &mut [u64],
-)
+) -> io::Result<()>
     requires { Within l head.now numbers.old }
 {
     if !l.is_whole {
-        return;
+        return Ok(());
     }
     let image = parts::image(numbers, bars, words);
-    let question = heads::question(l, image, head, numbers, bars);
+    let question = heads::question(rt, l, image, head, numbers, bars)?;
     let n = image.count;
-    ask(question, &words[0..n], numbers, bars, inputs, room);
+    ask(rt, question, &words[0..n], numbers, bars, inputs, room)
 }
 
 fn ask(
+    rt: &impl Print,
     question: u64,
     image: &[u32],
     numbers: &mut [u64],
     bars: &[usize; 16],
     inputs: &mut [u64],
     room: &mut [u64],
-) {
+) -> io::Result<()> {
     match question {
-        1 => print::answer(check(image)),
-        2 => fit(image, numbers, bars),
-        3 => run_in(image, numbers, bars, inputs, room),
-        _ => {}
+        1 => print::answer(rt, check(image)),
+        2 => fit(rt, image, numbers, bars),
+        3 => run_in(rt, image, numbers, bars, inputs, room),
+        _ => Ok(()),
     }
 }
 
@@ -58,17 +61,20 @@ pub fn told(image: &[u32], heap: &mut [u64], inputs: &[u64], room: &mut [u64], l
     run::numbers_of(run::run(image, heap, inputs, room, l.steps, l.depth))
 }
 
-fn fit(image: &[u32], numbers: &[u64], bars: &[usize; 16]) {
+fn fit(rt: &impl Print, image: &[u32], numbers: &[u64], bars: &[usize; 16]) -> io::Result<()> {
     let heap = cases::part(bars, 1, numbers.len());
     let inputs = cases::part(bars, 2, numbers.len());
     let from = heap.from;
     let to = heap.to;
     let first = inputs.from;
     let end = inputs.to;
-    print::answer(conformity(image, &numbers[from..to], &numbers[first..end]));
+    print::answer(
+        rt,
+        conformity(image, &numbers[from..to], &numbers[first..end]),
+    )
 }
 
-#[derive(Drop)]
+#[derive(Clone, Copy)]
 pub struct Limits {
     pub steps: u64,
     pub depth: u64,
@@ -82,28 +88,30 @@ fn limits_of(numbers: &[u64], bars: &[usize; 16]) -> Limits {
 }
 
 fn run_in(
+    rt: &impl Print,
     image: &[u32],
     numbers: &mut [u64],
     bars: &[usize; 16],
     inputs: &mut [u64],
     room: &mut [u64],
-) {
+) -> io::Result<()> {
     let n = parts::copy(numbers, bars, 2, inputs);
     let lent = parts::room(numbers, bars, room);
-    run_on(image, numbers, bars, &inputs[0..n], &mut room[0..lent]);
+    run_on(rt, image, numbers, bars, &inputs[0..n], &mut room[0..lent])
 }
 
 fn run_on(
+    rt: &impl Print,
     image: &[u32],
     numbers: &mut [u64],
     bars: &[usize; 16],
     inputs: &[u64],
     room: &mut [u64],
-) {
+) -> io::Result<()> {
     let l = limits_of(numbers, bars);
     let heap = cases::part(bars, 1, numbers.len());
     let from = heap.from;
     let to = heap.to;
     let t = told(image, &mut numbers[from..to], inputs, room, l);
-    print::ran(t.number, t.place, t.count, t.value, &numbers[from..to]);
+    print::ran(rt, t.number, t.place, t.count, t.value, &numbers[from..to])
 }

@@ -1,4 +1,6 @@
 // A value comes back to the innermost frame: its node takes a step, or goes on to its next operand. A Call's frame is not for here.
+#![tactic(auto)]
+
 ghost use Rattle.std.specs.Prelude.{◌≡◌, ℕ, suc, ◌+◌, get_or};
 ghost use Rattle.image.specs.Layout.{Good};
 ghost use Rattle.laws.specs.Values.{IsValue};

@@ -1,4 +1,6 @@
 // Leaps with a value that comes back to its frame, and with an address that is thrown.
+#![tactic(auto)]
+
 ghost use Rattle.std.specs.Prelude.{suc, ◌≤◌, get_or};
 ghost use Rattle.image.specs.Layout.{Good};
 ghost use Rattle.room.specs.declared.Focus.TheVariants.{Value as Word, Thrown};

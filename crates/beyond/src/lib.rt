@@ -1,4 +1,6 @@
 // A node under more frames than the depth limit allows.
+#![tactic(auto)]
+
 ghost use Rattle.std.specs.Prelude.{◌≡◌, ◌+◌, ◌<◌};
 ghost use Rattle.image.specs.Nodes.{node_word, operands};
 ghost use Rattle.image.specs.Layout.{Good};

@@ -1,4 +1,6 @@
 // A value comes back to a Call: the next operand is gone into, or the Call has all its operands and does what its receiver says.
+#![tactic(auto)]
+
 ghost use Rattle.std.specs.Prelude.{◌≡◌, Bool, suc, get_or};
 ghost use Rattle.image.specs.Nodes.{node_word};
 ghost use Rattle.image.specs.Layout.{Good};

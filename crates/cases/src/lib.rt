@@ -1,6 +1,8 @@
 // A line of text that is a case: `QUESTION NAME | NUMBER .. | NUMBER ..`, read byte by byte. The head, which
 // is all before the first bar, and the numbers of all parts go into memory that the caller lends. Nothing
 // here knows which questions there are, or what parts each takes.
+#![tactic(auto)]
+
 ghost use Rattle.std.specs.Prelude.{◌≡◌, ◌+◌, ◌<◌, ◌≤◌, length};
 ghost use Rattle.cases.specs.Kept.{Within};
 
@@ -39,7 +41,7 @@ pub fn one_part() -> [u64; 131072]
 }
 
 // A line so far. The line's end counts as a bar, so that part k has the numbers from bar k to bar k + 1.
-#[derive(Drop)]
+#[derive(Clone, Copy)]
 pub struct Line {
     // the line's own number, from 1
     pub number: u64,
@@ -76,7 +78,7 @@ pub fn begun(number: u64) -> Line
 }
 
 // A line, and the place behind its bytes.
-#[derive(Drop)]
+#[derive(Clone, Copy)]
 pub struct Reached {
     pub line: Line,
     pub at: usize,
@@ -239,7 +241,7 @@ fn put(l: Line, numbers: &mut [u64]) -> Line
 }
 
 // The numbers of a part, by their places.
-#[derive(Drop)]
+#[derive(Clone, Copy)]
 pub struct Span {
     pub from: usize,
     pub to: usize,

@@ -1,4 +1,6 @@
 // The rules 10 and 11. Both ask for an accepted layout (`Good`): there a superclass has a lower number.
+#![tactic(auto)]
+
 ghost use Rattle.std.specs.Prelude.{◌≡◌, true, ◌+◌, ◌≤◌, ◌<◌};
 ghost use Rattle.std.proofs.Math.Option.{some};
 ghost use Rattle.order.specs.Rules.{first_place};

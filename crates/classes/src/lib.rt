@@ -1,6 +1,8 @@
 // Subclass, subtype, and the member of a name that a class sees.
 // All of it asks for an accepted layout (`Good`): there a superclass has a lower number, so every walk upwards ends, and the
 // tables of members are sorted, so that a member is looked up by halves.
+#![tactic(auto)]
+
 ghost use Rattle.std.specs.Prelude.{◌≡◌, true, ◌+◌, ◌*◌, ◌^◌, ◌≤◌, ◌<◌};
 ghost use Rattle.image.specs.Numbers.{highest_name};
 ghost use Rattle.image.specs.Trailer.{class_count};
@@ -18,14 +20,14 @@ use words::{FIRST_CLASS, NULL_TYPE};
 const NAMES: usize = 65536;
 
 // The two tables of members. Each is sorted by (class, name).
-#[derive(Drop)]
+#[derive(Clone, Copy)]
 pub enum Members {
     Fields,
     Methods,
 }
 
 // A member that a class sees: the class that declares it, and its record. Or that there is none.
-#[derive(Drop)]
+#[derive(Clone, Copy)]
 pub enum Seen {
     At(usize, usize),
     Nothing,

@@ -1,4 +1,6 @@
 // A value comes back to its node's frame, kind by kind.
+#![tactic(auto)]
+
 ghost use Rattle.std.specs.Prelude.{◌≡◌, List, ℕ, suc, ◌+◌, ◌≤◌, ◌<◌, length, get_or};
 ghost use Rattle.image.specs.Numbers.{variables};
 ghost use Rattle.image.specs.Nodes.{node_word};

@@ -1,4 +1,6 @@
 // The conformity check: layout, fields, heap and inputs, numbers 0 to 10 and 14 to 18.
+#![tactic(auto)]
+
 ghost use Rattle.std.specs.Prelude.{◌≡◌};
 ghost use Rattle.order.specs.Rules.{first_place, answer_of};
 ghost use Rattle.order.specs.declared.Found.TheVariants.{Nowhere};
@@ -13,7 +15,7 @@ use order::{Answer, Found};
 use rows::TABLE_WORDS;
 
 // What the conformity check answers: accepted, or the first breach with its place.
-#[derive(Drop)]
+#[derive(Clone, Copy)]
 pub enum Conformed {
     Accepted,
     Layout(Breach),

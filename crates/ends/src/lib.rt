@@ -1,4 +1,6 @@
 // What a turn says of the run: it goes on, or it is at its end, with its count.
+#![tactic(auto)]
+
 ghost use Rattle.std.specs.Prelude.{◌≡◌, ◌+◌, ◌-◌, ◌≤◌};
 ghost use Rattle.rules.specs.Run.{run};
 ghost use Rattle.room.specs.declared.Focus.TheVariants.{Node, Thrown};
@@ -9,7 +11,7 @@ use rules::End;
 use words::{Decoded, Value};
 
 // How a run ended, and how many steps it took.
-#[derive(Drop)]
+#[derive(Clone, Copy)]
 pub struct Finished {
     pub end: End,
     pub count: u64,
@@ -30,7 +32,7 @@ fn final_end(f: Focus) -> End
 }
 
 // What comes after a turn: the run goes on with a focus under so many frames, after so many steps, or it is at its end.
-#[derive(Drop)]
+#[derive(Clone, Copy)]
 pub enum Next {
     On(Focus, usize, u64),
     End,

@@ -1,4 +1,6 @@
 // The machine goes into a node: it pushes a frame for the node, or takes the step of a node that has no operand to go into.
+#![tactic(auto)]
+
 ghost use Rattle.std.specs.Prelude.{◌≡◌, ℕ, suc, ◌+◌, ◌≤◌, ◌<◌, length, get_or, set};
 ghost use Rattle.image.specs.Nodes.{node_word, kind_of, operands};
 ghost use Rattle.image.specs.Layout.{Good};

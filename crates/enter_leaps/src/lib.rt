@@ -1,4 +1,6 @@
 // Leaps into a node.
+#![tactic(auto)]
+
 ghost use Rattle.std.specs.Prelude.{◌+◌, ◌≤◌, get_or};
 ghost use Rattle.image.specs.Layout.{Good};
 ghost use Rattle.rows.specs.Rows.{Rows};

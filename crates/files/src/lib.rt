@@ -1,8 +1,14 @@
 // Files of words, little end first, and decimal numbers, each by the argument of the program that names it. What
 // goes wrong is told by number; the script `muthaveri` has the words.
+#![tactic(auto)]
+
 ghost use Rattle.std.specs.Prelude.{◌≡◌, ◌+◌, ◌*◌, ◌≤◌, ◌<◌, length};
 ghost use Rattle.text.specs.Words.{Counts};
 
+use std::env::{Env, FillError};
+use std::fs::{Files, OpenFile, OpenOptions};
+use std::io::{ErrorKind, Read, Write};
+use std::{fs, io, str};
 use text::Fed;
 
 // An argument that is missing, too long, or empty where it names OUT.
@@ -29,7 +35,7 @@ const NAME_TAKEN: u64 = 9;
 const NO_NUMBER: u64 = 10;
 
 // How many words, or bytes, are at the start of a buffer, and what went wrong; 0 where nothing did.
-#[derive(Drop)]
+#[derive(Clone, Copy)]
 pub struct Taken {
     pub count: usize,
     pub fault: u64,
@@ -42,11 +48,18 @@ pub fn space() -> [u8; 1048576]
     [0; 1048576]
 }
 
+// Space for an argument, as long as the longest name of a file.
+fn argument_space() -> [u8; 4096]
+    ensures { 4096 ≡ length result }
+{
+    [0; 4096]
+}
+
 // The words of an image. A file that has more bytes than there is space for is too long.
-pub fn image(argument: usize, space: &mut [u8], words: &mut [u32]) -> Taken
+pub fn image(rt: &(impl Env + Files), argument: usize, space: &mut [u8], words: &mut [u32]) -> Taken
     ensures { Counts result.count words.new }
 {
-    let bytes = take(argument, space, 4);
+    let bytes = take(rt, argument, space, 4);
     let n = bytes.count;
     Taken {
         count: text::words32(&space[..n], words),
@@ -55,10 +68,10 @@ pub fn image(argument: usize, space: &mut [u8], words: &mut [u32]) -> Taken
 }
 
 // The words of a heap, or inputs.
-pub fn words(argument: usize, space: &mut [u8], words: &mut [u64]) -> Taken
+pub fn words(rt: &(impl Env + Files), argument: usize, space: &mut [u8], words: &mut [u64]) -> Taken
     ensures { Counts result.count words.new }
 {
-    let bytes = take(argument, space, 8);
+    let bytes = take(rt, argument, space, 8);
     let n = bytes.count;
     Taken {
         count: text::words64(&space[..n], words),
@@ -67,20 +80,22 @@ pub fn words(argument: usize, space: &mut [u8], words: &mut [u64]) -> Taken
 }
 
 // The bytes of a file of words of so many bytes.
-fn take(argument: usize, space: &mut [u8], width: usize) -> Taken
+fn take(rt: &(impl Env + Files), argument: usize, space: &mut [u8], width: usize) -> Taken
     requires { 0 < width }
     ensures { Counts result.count space.new }
 {
-    let mut path = io::buffer();
-    let n = os::arg(argument, &mut path);
-    if os::errno() != 0 {
+    let mut path = argument_space();
+    let Ok(n) = rt.arg(argument, &mut path) else {
         return failed(NO_ARGUMENT);
+    };
+    // a path of std is text
+    let Ok(path) = str::from_utf8(&path[..n]) else {
+        return failed(NOT_OPENED);
+    };
+    match fs::open(rt, path) {
+        Ok(file) => read(file, space, width),
+        Err(e) => failed(not_opened(e.kind())),
     }
-    let fd = os::open_read(&path[..n]);
-    if fd < 0 {
-        return failed(not_opened(os::errno()));
-    }
-    read(fd, space, width)
 }
 
 fn failed(fault: u64) -> Taken
@@ -89,57 +104,67 @@ fn failed(fault: u64) -> Taken
     Taken { count: 0, fault }
 }
 
-fn not_opened(errno: i32) -> u64 {
-    if errno == libc::ENOENT {
-        return NO_FILE;
+fn not_opened(kind: ErrorKind) -> u64 {
+    match kind {
+        ErrorKind::NotFound => NO_FILE,
+        ErrorKind::PermissionDenied => NOT_ALLOWED,
+        _ => NOT_OPENED,
     }
-    if errno == libc::EACCES {
-        return NOT_ALLOWED;
-    }
-    NOT_OPENED
 }
 
 // One more read shows whether the file ends where the reading did, goes on, or cannot be read.
-fn read(fd: i32, space: &mut [u8], width: usize) -> Taken
+fn read<F: Read + Drop>(mut file: F, space: &mut [u8], width: usize) -> Taken
     requires { 0 < width }
     ensures { Counts result.count space.new }
 {
-    let count = io::read_full(fd, space);
+    let count = fill(&mut file, space);
     let mut probe = [0u8; 1];
-    let more = libc::read(fd, &mut probe);
-    libc::close(fd);
+    let more = file.read(&mut probe);
     Taken {
         count,
         fault: fault_of(more, count % width),
     }
 }
 
-fn fault_of(more: isize, rest: usize) -> u64 {
-    if more < 0 {
-        return NOT_READ;
+// Reads until the space is full, the file ends, or a read fails: how many bytes are at its start then.
+fn fill(file: &mut impl Read, space: &mut [u8]) -> usize
+    ensures { Counts result space.new }
+{
+    let mut done = 0;
+    while done < space.len() {
+        let n = file.read(&mut space[done..]).unwrap_or(0);
+        if n == 0 {
+            break;
+        }
+        done += n;
     }
-    if more > 0 {
-        return TOO_LONG;
+    done
+}
+
+fn fault_of(more: io::Result<usize>, rest: usize) -> u64 {
+    match more {
+        Err(_) => NOT_READ,
+        Ok(0) if rest == 0 => 0,
+        Ok(0) => NO_MULTIPLE,
+        Ok(_) => TOO_LONG,
     }
-    if rest > 0 {
-        return NO_MULTIPLE;
-    }
-    0
 }
 
 // A number, or what is wrong with it.
-#[derive(Drop)]
+#[derive(Clone, Copy)]
 pub struct Given {
     pub number: u64,
     pub fault: u64,
 }
 
-pub fn number(argument: usize) -> Given
+pub fn number(rt: &impl Env, argument: usize) -> Given
     ensures { result.fault ≤ 10 }
 {
-    let mut digits = io::buffer();
-    let n = os::arg(argument, &mut digits);
-    number_of(&digits[..n])
+    let mut digits = argument_space();
+    match rt.arg(argument, &mut digits) {
+        Ok(n) => number_of(&digits[..n]),
+        Err(_) => no_number(),
+    }
 }
 
 fn no_number() -> Given
@@ -171,20 +196,33 @@ fn number_of(digits: &[u8]) -> Given
 
 // Writes the words to a new file beside the one that an argument names, and gives that its name once it is whole.
 // Where there is no such argument, nothing is to be kept.
-pub fn keep(argument: usize, words: &[u64]) -> u64
+pub fn keep(rt: &(impl Env + Files), argument: usize, words: &[u64]) -> u64
     ensures { result ≤ 10 }
 {
-    let mut path = io::buffer();
-    let n = os::arg(argument, &mut path);
-    if os::arg_count() <= argument {
-        return 0;
+    let mut path = argument_space();
+    match rt.arg(argument, &mut path) {
+        Ok(n) => keep_at(rt, &path[0..n], words),
+        Err(FillError::NotPresent) => 0,
+        Err(FillError::TooLong) => NO_ARGUMENT,
     }
-    if n == 0 {
+}
+
+fn keep_at(rt: &impl Files, path: &[u8], words: &[u64]) -> u64
+    ensures { result ≤ 10 }
+{
+    if path.len() == 0 {
         return NO_ARGUMENT;
     }
-    let mut beside = io::buffer();
-    let b = name_beside(&path[0..n], &mut beside);
-    replace(&path[0..n], &beside[0..b], words)
+    let mut beside = argument_space();
+    let b = name_beside(path, &mut beside);
+    // a path of std is text
+    let Ok(path) = str::from_utf8(path) else {
+        return NOT_WRITTEN;
+    };
+    let Ok(beside) = str::from_utf8(&beside[0..b]) else {
+        return NOT_WRITTEN;
+    };
+    replace(rt, path, beside, words)
 }
 
 // Puts the name and `.new` into `name`: how many bytes that is, and 0, which names no file, where they do not fit.
@@ -196,42 +234,45 @@ fn name_beside(path: &[u8], name: &mut [u8]) -> usize
     if 4092 < n {
         return 0;
     }
-    bytes::copy(path, name);
-    bytes::copy(b".new", &mut name[n..]);
+    name[0..n].copy_from_slice(path);
+    name[n..n + 4].copy_from_slice(b".new");
     n + 4
 }
 
-fn replace(path: &[u8], beside: &[u8], words: &[u64]) -> u64
+fn replace(rt: &impl Files, path: &str, beside: &str, words: &[u64]) -> u64
     ensures { result ≤ 10 }
 {
-    let fd = os::create(beside);
-    if fd < 0 {
-        return not_made(os::errno());
-    }
-    if write(fd, words) && os::rename(beside, path) == 0 {
+    let made = OpenOptions::new()
+        .write(true)
+        .create_new(true)
+        .open(rt, beside);
+    let file = match made {
+        Ok(file) => file,
+        Err(e) => return not_made(e.kind()),
+    };
+    if write(file, words) && fs::rename(rt, beside, path).is_ok() {
         return 0;
     }
-    os::unlink(beside);
+    let _ = fs::remove_file(rt, beside);
     NOT_WRITTEN
 }
 
-fn not_made(errno: i32) -> u64
+fn not_made(kind: ErrorKind) -> u64
     ensures { result ≤ 10 }
 {
-    if errno == libc::EEXIST {
-        return NAME_TAKEN;
+    match kind {
+        ErrorKind::AlreadyExists => NAME_TAKEN,
+        _ => NOT_WRITTEN,
     }
-    NOT_WRITTEN
 }
 
 // Writes the words, waits until they are on the disk, and closes the file.
-fn write(fd: i32, words: &[u64]) -> bool {
+fn write<F: Write + OpenFile + Drop>(mut file: F, words: &[u64]) -> bool {
     let mut space = space();
     let n = bytes_of(words, &mut space);
-    let is_written = io::write_all(fd, &space[0..n]);
-    let is_kept = libc::fsync(fd) == 0;
-    let is_closed = libc::close(fd) == 0;
-    is_written & is_kept & is_closed
+    let is_written = file.write_all(&space[0..n]).is_ok();
+    let is_kept = file.sync_all().is_ok();
+    is_written & is_kept
 }
 
 // Puts the bytes of the words at the start of `out`, as many as it has room for: how many they are.

@@ -13,7 +13,7 @@ use Rattle.words.specs.declared.Ty.TheVariants.{Void}
 use Rattle.words.specs.Types.{type_of, type_word, is_type}
 use Rattle.words.specs.TypeLaws.{type_word_of, type_class, is_type_lem}
 use Rattle.words.specs.Value.{value_of, addresses}
-use Rattle.words.specs.ValueLaws.{decode_proper}
+use Rattle.words.proofs.ValueLaws.{decode_proper}
 use Rattle.image.specs.Trailer.{class_count, type_count, input_count}
 use Rattle.image.specs.Records.{type_at}
 use Rattle.rules.specs.Trees.{written}

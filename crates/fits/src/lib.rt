@@ -1,4 +1,6 @@
 // Whether the values of a heap and of inputs fit their types: numbers 17 and 18.
+#![tactic(auto)]
+
 ghost use Rattle.std.specs.Prelude.{◌≡◌, true, cond, suc, ◌<◌, eqb, ltb, length};
 ghost use Rattle.order.specs.Rules.{first_place};
 ghost use Rattle.order.specs.declared.Found.TheVariants.{Nowhere};

@@ -1,4 +1,6 @@
 // New: an object in the lowest free slot.
+#![tactic(auto)]
+
 ghost use Rattle.std.specs.Prelude.{◌≡◌, ℕ, ◌+◌, ◌≤◌, ◌<◌, length, get_or};
 ghost use Rattle.image.specs.Nodes.{node_word};
 ghost use Rattle.image.specs.Layout.{Good};

@@ -6,7 +6,7 @@ use native.Mathlib.Omega.{arith}
 use Rattle.std.specs.Int.Bits.{bit_or, or_add_and}
 use Rattle.std.proofs.lemmas.Nat.{and_le_l, and_le_r}
 use Rattle.std.proofs.lemmas.Bool.{eqb-false}
-use Rattle.order.specs.Rules.{scan, first_place}
+use Rattle.order.specs.Rules.{first_place}
 use Rattle.order.specs.Scan.{Still, start, on, hit, none}
 use Rattle.order.specs.Lowest.{held}
 use Rattle.order.specs.declared.Found.TheVariants.{At, Nowhere}

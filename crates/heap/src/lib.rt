@@ -1,4 +1,6 @@
 // The heap: a table of every class's fields, readings of slots, and the rules 14, 15 and 16.
+#![tactic(auto)]
+
 ghost use Rattle.std.specs.Prelude.{◌≡◌, true, cond, ◌+◌, ◌*◌, ◌-◌, ◌/◌, ◌%◌, ◌≤◌, ◌<◌, ltb, length, get_or};
 ghost use Rattle.order.specs.Rules.{scan, first_place};
 ghost use Rattle.order.specs.declared.Found.TheVariants.{Nowhere};

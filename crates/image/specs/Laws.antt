@@ -1,8 +1,7 @@
 -- Laws of the layout's definitions.
-use Rattle.std.specs.Prelude.{◌≡◌, refl, Bool, true, false, cond, ◌&&◌, List, [], ◌∷◌, ℕ, zero, suc, ◌+◌, ◌*◌, ◌-◌, ◌≤◌, ◌<◌, length, get_or}
-use Rattle.std.proofs.Common.{sym, ◌∙◌, ap, arith}
+use Rattle.std.specs.Prelude.{◌≡◌, refl, Bool, true, false, ◌&&◌, ℕ, suc, ◌+◌, ◌-◌, ◌≤◌}
+use Rattle.std.proofs.Common.{arith}
 use Rattle.std.proofs.Math.ListN.{get_or-eq_default}
-use Rattle.image.specs.declared.Kind.{Kind}
 use Rattle.image.specs.declared.Kind.TheVariants.{Unknown}
 use Rattle.image.specs.Nodes.{kinds, kind_of}
 

@@ -1,5 +1,5 @@
 -- The rules of the layout, numbers 1 to 9, and the number and place of each answer.
-use Rattle.std.specs.Prelude.{◌≡◌, Bool, true, List, [], ◌∷◌, ℕ, suc, ◌+◌, ◌*◌, ◌-◌, ◌≤◌, ◌<◌, length, get_or}
+use Rattle.std.specs.Prelude.{◌≡◌, Bool, true, List, [], ◌∷◌, ℕ, suc, ◌+◌, ◌*◌, ◌≤◌, ◌<◌, length, get_or}
 use Rattle.order.specs.Rules.{Rule, accepted}
 use Rattle.order.specs.declared.Answer.{Answer}
 use Rattle.image.specs.declared.Breach.{Breach}

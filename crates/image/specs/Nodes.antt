@@ -1,5 +1,5 @@
 -- Node records: kinds, what x and y must be, operands and sizes; and the bodies that fill the table.
-use Rattle.std.specs.Prelude.{Bool, true, false, cond, ◌&&◌, List, [], ◌∷◌, ℕ, zero, suc, ◌+◌, ◌*◌, ◌-◌, length, get_or, ltb, leb, eqb}
+use Rattle.std.specs.Prelude.{Bool, false, cond, ◌&&◌, List, [], ◌∷◌, ℕ, zero, suc, ◌+◌, ◌*◌, ◌-◌, length, get_or, ltb, leb, eqb}
 use Rattle.order.specs.declared.Found.{Found}
 use Rattle.order.specs.declared.Found.TheVariants.{At, Nowhere}
 use Rattle.words.specs.Types.{is_declared, is_type}

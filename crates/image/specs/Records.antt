@@ -1,8 +1,8 @@
 -- Class, field and method records and type words, and what each must be.
-use Rattle.std.specs.Prelude.{Bool, true, false, cond, ◌&&◌, ◌||◌, List, ℕ, zero, suc, ◌+◌, ◌*◌, ◌-◌, length, get_or, ltb, leb, eqb}
+use Rattle.std.specs.Prelude.{Bool, true, cond, ◌&&◌, ◌||◌, List, ℕ, zero, suc, ◌+◌, ◌*◌, ◌-◌, length, get_or, ltb, leb, eqb}
 use Rattle.words.specs.Types.{is_declared}
 use Rattle.image.specs.Numbers.{first_user_class, most_arguments, highest_name}
-use Rattle.image.specs.Trailer.{trailer, class_count, field_count, method_count, type_count}
+use Rattle.image.specs.Trailer.{trailer, class_count, type_count}
 
 -- class c's one word
 unfoldable pub superclass : List ℕ → ℕ → ℕ

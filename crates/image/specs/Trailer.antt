@@ -1,5 +1,5 @@
 -- The trailer, and where it says that the sections stand.
-use Rattle.std.specs.Prelude.{Bool, true, ◌&&◌, List, [], ◌∷◌, ℕ, ◌+◌, ◌*◌, ◌-◌, ◌/◌, ◌%◌, length, get_or, leb, eqb}
+use Rattle.std.specs.Prelude.{Bool, true, ◌&&◌, List, [], ◌∷◌, ℕ, ◌+◌, ◌-◌, ◌/◌, ◌%◌, length, get_or, leb, eqb}
 use Rattle.image.specs.Numbers.{trailer_words, format_number, most_classes, most_fields, most_methods, most_type_words, most_nodes, most_inputs}
 
 -- trailer word j, of those at the image's end

@@ -1,5 +1,7 @@
 // The image: where its sections stand, its records, and the answers of the layout check.
 // The accessors ask for a layout that fits the image (`Lay`) and promise the word that the definitions name.
+#![tactic(auto)]
+
 ghost use Rattle.std.specs.Prelude.{◌≡◌, ℕ, suc, ◌+◌, ◌*◌, ◌-◌, ◌≤◌, ◌<◌, length};
 ghost use Rattle.image.specs.Numbers.{trailer_words};
 ghost use Rattle.image.specs.Trailer.{trailer};
@@ -37,7 +39,7 @@ pub const VARIABLES: u32 = 64;
 pub const WRITTEN_TAGS: u32 = 4;
 
 // Where each section begins, how many records it has, and the trailer's words 5 and 6. Classes begin at word 0.
-#[derive(Drop)]
+#[derive(Clone, Copy)]
 pub struct Layout {
     pub class_count: usize,
     pub fields: usize,
@@ -53,7 +55,7 @@ pub struct Layout {
 }
 
 // The first breach of the layout, numbers 1 to 9, with its place.
-#[derive(Drop)]
+#[derive(Clone, Copy)]
 pub enum Breach {
     Format,
     Trailer(usize),
@@ -67,14 +69,14 @@ pub enum Breach {
 }
 
 // What the layout check answers.
-#[derive(Drop)]
+#[derive(Clone, Copy)]
 pub enum Laid {
     Sound(Layout),
     Broken(Breach),
 }
 
 // A node's kind. The numbers 0 to 15 are the kinds in this order; any other number is no kind.
-#[derive(Drop)]
+#[derive(Clone, Copy)]
 pub enum Kind {
     New,
     Cast,

@@ -1,6 +1,6 @@
 -- Laws: rules asked after others.
-use Rattle.std.specs.Prelude.{◌≡◌, refl, Bool, true, false, cond, List, [], ◌∷◌, ◌++◌, ℕ, zero, suc, ◌<◌, eqb}
-use Rattle.std.proofs.Common.{sym, ◌∙◌, ap, ne_eqb}
+use Rattle.std.specs.Prelude.{◌≡◌, refl, false, cond, List, [], ◌∷◌, ◌++◌, ℕ, eqb}
+use Rattle.std.proofs.Common.{ap, ne_eqb}
 use native.Mathlib.Omega.{arith}
 use Rattle.order.specs.declared.Found.{Found}
 use Rattle.order.specs.declared.Found.TheVariants.{At, Nowhere}

@@ -1,4 +1,6 @@
 // The first public question: may this image be let in? The first breach among the numbers 1 to 13, or none.
+#![tactic(auto)]
+
 ghost use Rattle.std.specs.Prelude.{◌≡◌};
 ghost use Rattle.order.specs.Rules.{answer_of};
 ghost use Rattle.rules.specs.Numbers.{check_rules};
@@ -9,7 +11,7 @@ use image::{Breach, Laid, Layout};
 use order::{Answer, Found};
 
 // What the image check answers. A breach of the layout keeps its own case.
-#[derive(Drop)]
+#[derive(Clone, Copy)]
 pub enum Checked {
     Accepted,
     Layout(Breach),

@@ -1,4 +1,6 @@
 // What x and y of a node must be, and how many operands it has, by its kind: number 8.
+#![tactic(auto)]
+
 ghost use Rattle.std.specs.Prelude.{◌≡◌, ◌&&◌, ◌≤◌, ◌<◌, ltb, leb};
 ghost use Rattle.words.specs.Types.{is_declared, is_type};
 ghost use Rattle.words.specs.Value.{is_value};

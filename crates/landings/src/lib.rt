@@ -1,9 +1,11 @@
 // What a leap comes to. A leap is a turn that takes several steps at once. It is taken where enough steps and levels are left, and where
 // it has nothing to look up; otherwise it tells so, and the machine takes the turn in its plain form.
+#![tactic(auto)]
+
 ghost use Rattle.std.specs.Prelude.{◌≡◌};
 
 // What a leap comes to. The word is a node, a value's word, or an address, and with an address the place is told.
-#[derive(Drop)]
+#[derive(Clone, Copy)]
 pub struct Leap {
     pub how: u64,
     pub word: u64,

@@ -22,7 +22,7 @@ use Rattle.words.specs.declared.Decoded.TheVariants.{Is, Not}
 use Rattle.words.specs.declared.Ty.{Ty}
 use Rattle.words.specs.declared.Ty.TheVariants.{Void, Boolean, Integer, NT, Class}
 use Rattle.words.specs.Value.{value_of, word_of, is_is, Proper}
-use Rattle.words.specs.ValueLaws.{decode_encode, encode_decode, decode_proper}
+use Rattle.words.proofs.ValueLaws.{decode_encode, encode_decode, decode_proper}
 use Rattle.image.specs.Laws.{and_left}
 use Rattle.image.specs.Trailer.{class_count}
 use Rattle.rules.specs.Maps.{tabulate}

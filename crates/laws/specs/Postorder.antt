@@ -14,7 +14,7 @@ use Rattle.image.specs.Trailer.{method_count, node_count, main_node}
 use Rattle.image.specs.Records.{method_word}
 use Rattle.image.specs.Nodes.{node_word, kind_of, operands, spans, node_holds, body_start, body_holds, filled_holds}
 use Rattle.rules.specs.Maps.{tabulate}
-use Rattle.rules.specs.Trees.{Expr, Exprs, new, cast, val, var, add, eq, assign, get, put, call, block, seq, ite, while, throw, try, nil, cons, operand, arguments, node_of, node_tree, tree, place, postorder, postorder_all, places}
+use Rattle.rules.specs.Trees.{Expr, operand, arguments, node_of, node_tree, tree, place, postorder, postorder_all, places}
 use Rattle.rules.specs.Program.{method_at, main}
 use Rattle.rules.specs.Numbers.{joined}
 use Rattle.laws.specs.Maps.{tabulate_same, stretch, stretch_from, stretch_zero, stretch_none, stretch_append, stretch_last, stretch_same, rising_le, joined_stretches}

@@ -5,7 +5,7 @@ use Rattle.std.proofs.Math.Path.{ap}
 use Rattle.std.proofs.Math.Bool.{true}
 use Rattle.std.proofs.Math.Option.{Option, none, some}
 use mathlib.Core.List.{List, [], ◌∷◌, map, map-append}
-use Prim.Native.Nat.{ℕ, zero, suc, ◌≤◌, ◌<◌}
+use Prim.Native.Nat.{ℕ, zero, suc, ◌<◌}
 use Rattle.std.proofs.Math.ListN
 use Rattle.std.proofs.Math.ListN.{length, length-append, length-map}
 use Rattle.words.specs.declared.Ty.{Ty}
@@ -95,7 +95,7 @@ module _ (ws : List ℕ) (hold : NodesHold ws) (filled : BodiesHold ws) where
 
   pub site_tree : (n : ℕ) (z : Site) → n < node_count ws → (get_or (all_sites ws) n z).tree ≡ tree ws n
   site_tree n z l =
-      sym (ListN.get_d_map (λ s. s.tree) (all_sites ws) n z)
+      sym (ListN.get_or-map (λ s. s.tree) (all_sites ws) n z)
       ∙ ap (λ (l : List Expr). get_or l n z.tree) all_sites_trees
       ∙ get_d_tabulate (node_count ws) (tree ws) n z.tree l
 

@@ -6,7 +6,7 @@ use native.Mathlib.Omega.{arith}
 use Rattle.words.specs.declared.Value.{Value}
 use Rattle.words.specs.declared.Value.TheVariants.{Null, Intg, Addr}
 use Rattle.words.specs.Value.{addresses, word_of, Proper, tag_of, payload_of, given, value_with, value_of, is_is}
-use Rattle.words.specs.ValueLaws.{encode_decode}
+use Rattle.words.proofs.ValueLaws.{encode_decode}
 use Rattle.rules.specs.Trees.{written}
 use Rattle.rules.specs.Step.{tag, payload}
 use Rattle.laws.specs.Values.{value_at, IsValue}

@@ -1,1 +1,2 @@
 // Laws of the rules' definitions, for the proofs of the code. There is no code here.
+#![tactic(auto)]

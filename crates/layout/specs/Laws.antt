@@ -1,5 +1,5 @@
 -- Laws: what the rules' being broken nowhere brings.
-use Rattle.std.specs.Prelude.{◌≡◌, refl, Bool, true, false, List, ℕ, ◌≤◌, length, leb, eqb}
+use Rattle.std.specs.Prelude.{◌≡◌, true, false, List, ℕ, ◌≤◌, length, leb, eqb}
 use Rattle.std.proofs.Common.{leb-true}
 use Rattle.order.specs.Rules.{scan, first_place}
 use Rattle.order.specs.Lowest.{held}

@@ -1,12 +1,12 @@
 -- The layout check's promise, for the reader: its answer is the lowest breach of 1 to 9, or 0 where there is none; and no other answer is.
-use Rattle.std.specs.Prelude.{◌≡◌, refl, true, false, List, [], ◌∷◌, ◌↔◌, ℕ, zero, suc, ◌<◌, ◌≤◌, eqb, ltb, get_or}
+use Rattle.std.specs.Prelude.{◌≡◌, refl, true, false, List, [], ◌∷◌, ◌↔◌, ℕ, zero, suc, ◌<◌, eqb, ltb, get_or}
 use Rattle.std.proofs.Common.{sym, ◌∙◌, ap, arith}
 use Rattle.std.proofs.lemmas.Bool.{eqb-false}
 use Rattle.order.specs.declared.Answer.{Answer}
-use Rattle.order.specs.Rules.{Rule, answer_of, accepted, Tells}
+use Rattle.order.specs.Rules.{answer_of, accepted, Tells}
 use Rattle.order.specs.Rules.{Sound as Unbroken}
 use Rattle.order.specs.Lowest.{Rising, only, accepts, determined}
-use Rattle.image.specs.Layout.{format_rule, trailer_rule, ceiling_rule, class_rule, field_rule, method_rule, type_rule, node_rule, body_rule, record_rules, layout_rules, tested, breach_numbers, laid_numbers, Lay, Good, Brings}
+use Rattle.image.specs.Layout.{format_rule, trailer_rule, ceiling_rule, class_rule, field_rule, method_rule, type_rule, node_rule, body_rule, record_rules, layout_rules, tested, breach_numbers, laid_numbers, Lay, Brings}
 use Rattle.image.specs.declared.Layout.{Layout}
 use Rattle.image.specs.declared.Breach.{Breach}
 use Rattle.image.specs.declared.Breach.TheVariants.{Format, Trailer, Ceiling, ClassRecord, FieldRecord, MethodRecord, TypeWord, NodeRecord, Bodies}

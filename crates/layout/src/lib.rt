@@ -1,4 +1,6 @@
 // The layout check: the first breach among the numbers 1 to 9, or a layout that the layers above may trust.
+#![tactic(auto)]
+
 ghost use Rattle.std.specs.Prelude.{◌≡◌};
 ghost use Rattle.order.specs.Rules.{answer_of};
 ghost use Rattle.image.specs.Layout.{record_rules, layout_rules, laid_numbers, Lay, Small, Brings};

@@ -27,7 +27,7 @@ const LONGEST_NAME: usize = 64;
 const MOST_ROOM: u64 = 131072;
 
 // The part counted from 1, and the word in it from 0.
-#[derive(Drop)]
+#[derive(Clone, Copy)]
 pub struct Fault {
     pub kind: u64,
     pub part: usize,

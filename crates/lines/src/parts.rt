@@ -2,7 +2,7 @@
 ghost use Rattle.std.specs.Prelude.{◌≤◌, length};
 
 // So many words of the image, and whether the next one has more than 32 bits.
-#[derive(Drop)]
+#[derive(Clone, Copy)]
 pub struct Words {
     pub count: usize,
     pub is_wide: bool,

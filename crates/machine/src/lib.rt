@@ -1,4 +1,6 @@
 // The machine: turns are taken until the run ends. The expression is kept in the lent room, the focus and the level in locals.
+#![tactic(auto)]
+
 ghost use Rattle.std.specs.Prelude.{◌≡◌, ◌-◌, ◌≤◌, length, get_or};
 ghost use Rattle.image.specs.Trailer.{class_count};
 ghost use Rattle.image.specs.Layout.{Good};

@@ -1,5 +1,7 @@
 // What lookups found is kept, by node and by the class of the object, so that the next time nothing has to be looked up. The table is
 // lent and has a word for every 64th node: who comes later takes the word.
+#![tactic(auto)]
+
 ghost use Rattle.std.specs.Prelude.{◌≡◌, List, ℕ, suc, ◌*◌, ◌-◌, ◌/◌, ◌%◌, ◌<◌, length, get_or};
 ghost use Rattle.words.specs.Value.{addresses};
 ghost use Rattle.image.specs.Numbers.{most_nodes};

@@ -1,4 +1,6 @@
 // The three public questions for a caller in C or Rust: any image, heap, inputs, room and limits may be asked, and four numbers come back.
+#![tactic(auto)]
+
 ghost use Rattle.std.specs.Prelude.{◌≡◌, length};
 ghost use Rattle.muthaveri.specs.Answers.{of_answer, check_answer, conform_answer, RunAnswers};
 
@@ -7,7 +9,7 @@ use order::Answer;
 // The paper's number and place. Of a run that was not refused also the steps that it took, and the word of the value or address that its
 // end carries. Where there is no such count or word, it is 0.
 #[repr(C)]
-#[derive(Drop)]
+#[derive(Clone, Copy)]
 pub struct MuthaveriAnswer {
     pub number: u64,
     pub place: u64,

@@ -1,5 +1,7 @@
 // The type of one node, from the types of its operands: the rules of figure 1.
 // A type is its word: 0 Void, 1 Boolean, 2 Integer, 3 the null type, and 4 + c class c.
+#![tactic(auto)]
+
 ghost use Rattle.std.specs.Prelude.{◌≡◌, true, ◌&&◌, [], ◌∷◌, suc, ◌+◌, ◌≤◌, ◌<◌, get_or, eqb, leb};
 ghost use Rattle.words.specs.Types.{type_of};
 ghost use Rattle.image.specs.declared.Kind.TheVariants.{Cast, Var, Eq, Assign, Get, Set, Call};
@@ -17,14 +19,14 @@ use image::Layout;
 use words::{BOOLEAN, FIRST_CLASS, INTEGER, NULL_TYPE, VOID};
 
 // What the typing of a node finds: its type, or the place of the first node that has none.
-#[derive(Drop)]
+#[derive(Clone, Copy)]
 pub enum Typed {
     Is(u32),
     Not(usize),
 }
 
 // The types of a node's operands, first to last, or the place of the first node among them that has none.
-#[derive(Drop)]
+#[derive(Clone, Copy)]
 pub struct Types {
     pub ok: bool,
     pub place: usize,

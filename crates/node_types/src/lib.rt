@@ -1,4 +1,6 @@
 // What a node binds for its operands, and its type once theirs are known.
+#![tactic(auto)]
+
 ghost use Rattle.std.specs.Prelude.{◌≡◌, true, ◌+◌, ◌≤◌, ◌<◌, get_or, set};
 ghost use Rattle.image.specs.Numbers.{most_classes};
 ghost use Rattle.image.specs.Trailer.{class_count};
@@ -14,7 +16,7 @@ use node_rules::{Typed, Types};
 use words::FIRST_CLASS;
 
 // A variable that is bound, as a number, and the word of its type.
-#[derive(Drop)]
+#[derive(Clone, Copy)]
 pub struct Bound {
     pub variable: usize,
     pub word: u32,

@@ -1,6 +1,6 @@
 -- Laws that the proofs of nodes cite.
-use Rattle.std.specs.Prelude.{◌≡◌, refl, Bool, true, false, cond, ◌&&◌, List, ℕ, zero, suc, ◌+◌, ◌-◌, ◌≤◌, ◌<◌, ltb, leb, eqb}
-use Rattle.std.proofs.Common.{sym, ◌∙◌, ap, arith, add-one, le-leb, ltb-true}
+use Rattle.std.specs.Prelude.{◌≡◌, refl, Bool, true, false, cond, List, ℕ, zero, suc, ◌+◌, ◌-◌, ◌≤◌, ◌<◌, ltb, leb}
+use Rattle.std.proofs.Common.{arith, add-one, le-leb, ltb-true}
 use Rattle.std.proofs.lemmas.Bool.{lt-leb}
 use Rattle.order.specs.declared.Found.{Found}
 use Rattle.order.specs.declared.Found.TheVariants.{At, Nowhere}

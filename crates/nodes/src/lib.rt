@@ -1,4 +1,6 @@
 // Numbers 8 and 9: node records, and the bodies that fill the node table. One pass over each table: operands are found by sizes.
+#![tactic(auto)]
+
 ghost use Rattle.std.specs.Prelude.{◌≡◌, ◌^◌, ◌≤◌, ◌<◌};
 ghost use Rattle.order.specs.Rules.{first_place};
 ghost use Rattle.image.specs.Nodes.{operands, spans, size_is, node_holds, body_start, body_holds, filled_holds};

@@ -1,4 +1,6 @@
 // Objects: where a field stands in the heap's words, and new objects.
+#![tactic(auto)]
+
 ghost use Rattle.std.specs.Prelude.{◌≡◌, ◌*◌, ◌≤◌, ◌<◌, length, get_or};
 ghost use Rattle.image.specs.Numbers.{highest_name};
 ghost use Rattle.image.specs.Trailer.{class_count};
@@ -24,7 +26,7 @@ const ADDRESS: u64 = 4;
 
 // Where a field stands: the index of its word in the heap. Or the address of the exception that is thrown instead, or that no
 // rule fits.
-#[derive(Drop)]
+#[derive(Clone, Copy)]
 pub enum Spot {
     At(usize),
     Raises(usize),

@@ -1,4 +1,6 @@
 // Where a node's operands stand: what every layer that goes down a tree asks.
+#![tactic(auto)]
+
 ghost use Rattle.std.specs.Prelude.{◌≡◌, ℕ, ◌<◌};
 ghost use Rattle.image.specs.Nodes.{node_word, kind_of, operands};
 ghost use Rattle.image.specs.Layout.{Good};

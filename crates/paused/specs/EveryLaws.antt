@@ -8,7 +8,6 @@ use Rattle.std.proofs.Math.Dec.{eqb}
 use Rattle.std.specs.Int.Bits.{bit_or, or_add_and}
 use Rattle.std.proofs.lemmas.Nat.{and_le_l, and_le_r}
 use Rattle.std.proofs.lemmas.Bool.{eqb-false}
-use Rattle.image.specs.Laws.{and_left, and_right}
 use Rattle.pause.specs.declared.Record.{Record}
 use Rattle.pause.specs.Paused.{every, blank, fresh}
 use Rattle.pause.specs.PausedLaws.{not_both, every_true}

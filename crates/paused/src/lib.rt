@@ -1,4 +1,6 @@
 // What the words of a room and of its record say of a call: whether it starts a run.
+#![tactic(auto)]
+
 ghost use Rattle.std.specs.Prelude.{◌≡◌, ◌+◌, ◌≤◌, length, get_or};
 ghost use Rattle.pause.specs.Paused.{blank, fresh};
 

@@ -1,4 +1,6 @@
 // Frames are pushed, and a block takes up a value.
+#![tactic(auto)]
+
 ghost use Rattle.std.specs.Prelude.{◌≡◌, List, ℕ, suc, ◌+◌, ◌≤◌, ◌<◌, length, get_or, set};
 ghost use Rattle.image.specs.Numbers.{variables};
 ghost use Rattle.laws.specs.Values.{IsValue};

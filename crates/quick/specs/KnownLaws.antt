@@ -9,10 +9,10 @@ use native.Mathlib.Omega.{arith}
 use Rattle.std.proofs.lemmas.Bool.{eqb-false}
 use Rattle.words.specs.declared.Value.{Value}
 use Rattle.words.specs.Value.{value_with, value_of, is_value}
-use Rattle.words.specs.ValueLaws.{tag_of_lem, payload_of_lem}
+use Rattle.words.proofs.ValueLaws.{tag_of_lem, payload_of_lem}
 use Rattle.image.specs.declared.Layout.{Layout}
 use Rattle.image.specs.Laws.{and_left, and_right}
-use Rattle.image.specs.Numbers.{variables, written_tags}
+use Rattle.image.specs.Numbers.{written_tags}
 use Rattle.image.specs.Trailer.{class_count, node_count}
 use Rattle.image.specs.Nodes.{node_word, kind_of, operands, names_hold, node_holds}
 use Rattle.image.specs.Layout.{Good}

@@ -1,5 +1,7 @@
 // Operands that have their value without a frame: a literal or a set variable, a field of one, a sum or a comparison of two, and one
 // such thing inside another. Nothing is changed here.
+#![tactic(auto)]
+
 ghost use Rattle.std.specs.Prelude.{◌≡◌, List, ℕ, suc, ◌≤◌, ◌<◌};
 ghost use Rattle.words.specs.Value.{value_with};
 ghost use Rattle.image.specs.Numbers.{most_nodes};
@@ -17,7 +19,7 @@ ghost use Rattle.quick.specs.Known.{Tabled, Stored, most_quick, Known, Valued, I
 use words::TAG;
 
 // A value's word and 1 more, or 0 where there is none to be had here; and the steps to it.
-#[derive(Drop)]
+#[derive(Clone, Copy)]
 pub struct Quick {
     pub held: u64,
     pub steps: u64,

@@ -1,4 +1,6 @@
 // What a record of a table must hold, from its words alone: numbers 4, 5 and 6.
+#![tactic(auto)]
+
 ghost use Rattle.std.specs.Prelude.{◌≡◌, ◌≤◌, ◌<◌};
 ghost use Rattle.image.specs.Numbers.{most_classes};
 ghost use Rattle.image.specs.Records.{super_holds, is_user_class, is_name, rises, member_holds, arguments_hold};

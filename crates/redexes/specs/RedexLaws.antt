@@ -10,7 +10,7 @@ use borrow.Author.Tests.{ltb-true, eqb-true, eqb-false, eq-eqb, ne_eqb}
 use Rattle.words.specs.declared.Value.{Value}
 use Rattle.words.specs.declared.Value.TheVariants.{Null, Intg, Addr}
 use Rattle.words.specs.Value.{addresses, word_of, tag_of, payload_of, value_with, value_of, is_value}
-use Rattle.words.specs.ValueLaws.{tag_of_lem, payload_of_lem}
+use Rattle.words.proofs.ValueLaws.{tag_of_lem, payload_of_lem}
 use Rattle.words.specs.Integer.{plus_of}
 use Rattle.image.specs.Trailer.{class_count}
 use Rattle.image.specs.Records.{method_word}
@@ -23,7 +23,7 @@ use Rattle.rules.specs.Trees.{written}
 use Rattle.rules.specs.Program.{Program, types_from, method_at, program}
 use Rattle.rules.specs.Classes.{subclass, sees_method}
 use Rattle.rules.specs.Heap.{Heap, free, obj, look, slot_words, heap_of}
-use Rattle.rules.specs.Step.{tag, same_value, fails, add_redex, cast_slot, cast_redex, Out, to, if_out, throw_out, enter, call_slot, call_out, catch_slot}
+use Rattle.rules.specs.Step.{tag, same_value, fails, add_redex, cast_slot, cast_redex, Out, if_out, throw_out, enter, call_slot, call_out, catch_slot}
 use Rattle.laws.specs.Maps.{length_tabulate}
 use Rattle.laws.specs.Values.{value_at, IsValue}
 use Rattle.laws.specs.Heap.{Words, fields_at, written_word, written_same, look_free, look_obj, class_known}

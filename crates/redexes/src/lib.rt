@@ -1,4 +1,6 @@
 // The decisions of a step, on value words. Nothing is changed here.
+#![tactic(auto)]
+
 ghost use Rattle.std.specs.Prelude.{◌≡◌, ℕ, ◌≤◌, ◌<◌};
 ghost use Rattle.words.specs.declared.Value.{Value};
 ghost use Rattle.words.specs.declared.Value.TheVariants.{Addr};
@@ -21,7 +23,7 @@ use image::Layout;
 use words::TAG;
 
 // What a redex comes to: a value's word, a system exception's address, or no rule.
-#[derive(Drop)]
+#[derive(Clone, Copy)]
 pub enum Outcome {
     Gives(u64),
     Raises(usize),
@@ -29,7 +31,7 @@ pub enum Outcome {
 }
 
 // What an If does with its condition's value.
-#[derive(Drop)]
+#[derive(Clone, Copy)]
 pub enum Choice {
     Then,
     Otherwise,
@@ -37,7 +39,7 @@ pub enum Choice {
 }
 
 // What a Throw does with its operand's value: it is Throw of an address, it becomes Throw of NullPointer, or no rule fits.
-#[derive(Drop)]
+#[derive(Clone, Copy)]
 pub enum Thrown {
     Address(usize),
     Null,
@@ -46,7 +48,7 @@ pub enum Thrown {
 
 // What a Call does with its operands' values: it enters a method (the address and the method's record), throws, or no rule
 // fits.
-#[derive(Drop)]
+#[derive(Clone, Copy)]
 pub enum Target {
     Enters(usize, usize),
     Raises(usize),
@@ -54,7 +56,7 @@ pub enum Target {
 }
 
 // What a Try does with a thrown address.
-#[derive(Drop)]
+#[derive(Clone, Copy)]
 pub enum Catch {
     Catches,
     Passes,

@@ -3,7 +3,7 @@ use Rattle.std.specs.Prelude.{ℕ, suc, ◌≡◌}
 use Rattle.std.proofs.Math.Option.{Option}
 use Rattle.words.specs.declared.Value.{Value}
 use Rattle.words.specs.declared.Ty.{Ty}
-use Rattle.rules.specs.Trees.{Expr, Exprs, new, cast, val, var, add, eq, assign, get, put, call, block, seq, ite, while, throw, try, cons, place}
+use Rattle.rules.specs.Trees.{Expr, Exprs, cast, val, add, eq, assign, get, put, call, block, seq, ite, throw, try, cons, place}
 use Rattle.reduction.specs.AppendixB.{Final}
 
 -- an element of a list with only values before it

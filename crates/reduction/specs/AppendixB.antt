@@ -1,7 +1,7 @@
 -- Appendix B of the report, the reduction rules, with the paper's choices: a rule for each rule there, in its order and by its
 -- constructs. `Reduces e h l e' h' l'`: in one step e becomes e', the heap h becomes h' and the store l becomes l'.
 -- A result that a rule computes is a variable with an equation. A new node has the place of the node that makes it; values need none.
-use Rattle.std.specs.Prelude.{ℕ, ◌+◌, ◌%◌, ◌^◌, ◌≡◌, Bool, true, false, List, [], ◌∷◌, length, get_or, set}
+use Rattle.std.specs.Prelude.{ℕ, ◌+◌, ◌%◌, ◌^◌, ◌≡◌, true, false, List, [], ◌∷◌, length, get_or, set}
 use Rattle.std.proofs.Math.Option.{none, some}
 use Rattle.words.specs.declared.Value.{Value}
 use Rattle.words.specs.declared.Value.TheVariants.{Null, Intg, Addr}

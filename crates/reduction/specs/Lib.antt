@@ -3,5 +3,4 @@ pub mod AppendixB
 pub mod ActivePlace
 pub mod Agreement
 pub mod Runs
-pub mod RunLaws
 pub mod Remembering

@@ -5,7 +5,6 @@ use Rattle.order.specs.Rules.{scan, first_place, answer_of}
 use Rattle.order.specs.declared.Found.TheVariants.{At, Nowhere}
 use Rattle.image.specs.Laws.{and_right}
 use Rattle.image.specs.Layout.{tested}
-use Rattle.rules.specs.Run.{run}
 use Rattle.rules.specs.Numbers.{most_depth, room_words, heap_length_holds, heap_length_rule, heap_word_rule, input_rule, depth_rule, room_rule}
 use Rattle.refusals.specs.Judged.{lent_rules, Free}
 

@@ -1,4 +1,6 @@
 // What stands against a run whose image has a layout: numbers 14 to 16, 19 and 20.
+#![tactic(auto)]
+
 ghost use Rattle.std.specs.Prelude.{◌≡◌, ◌*◌, ◌<◌};
 ghost use Rattle.image.specs.Layout.{Good};
 ghost use Rattle.rows.specs.Rows.{Sizes};
@@ -16,7 +18,7 @@ const LEVEL_WORDS: usize = 16;
 const MORE_WORDS: usize = 160;
 
 // What a run is refused for, numbers 1 to 10, 14 to 16, 19 and 20.
-#[derive(Drop)]
+#[derive(Clone, Copy)]
 pub enum Refusal {
     Layout(Breach),
     Fields(usize),
@@ -28,7 +30,7 @@ pub enum Refusal {
 }
 
 // Whether anything stands against the run of an image whose layout and fields are in order.
-#[derive(Drop)]
+#[derive(Clone, Copy)]
 pub enum Judged {
     Against(Refusal),
     Clear,

@@ -25,7 +25,7 @@ use Rattle.laws.specs.Values.{value_at, IsValue}
 use Rattle.laws.specs.Trees.{operand_count, operand_below, operand_after}
 use Rattle.laws.specs.Frames.{Frame, call_l, call_r, block_f, plug, outer, plugs, outers, operands_of, operands_move, Plain, quiet_plain, value_plain, blocked_some, step_call, step_call_none}
 use Rattle.room.specs.declared.Focus.TheVariants.{Node, Value as Word}
-use Rattle.room.specs.Room.{search_word, most_operands, frame_at, held, store_of, operands as calls, shape_of, calling, loaded, operand_of, frame_of, word, tag, kept, frame, frames, Fit}
+use Rattle.room.specs.Room.{search_word, most_operands, frame_at, held, store_of, shape_of, calling, loaded, operand_of, frame_of, word, tag, kept, frame, frames, Fit}
 use Rattle.room.specs.RoomLaws.{Kept, kept_refl, kept_set, kept_store, kept_frames, kept_fit, frames_more, fit_more, fit_less, block_in, block_around, push_block, block_size, block_below, block_above, block_fit, block_plugs, block_outers}
 use Rattle.room.specs.Stack.{found, Goes, goes_back, Beyond, beyond_at, busy}
 use Rattle.room.specs.Turn.{HeapOk, focus_of, weight, behind, pending, finds, Inv, Moves, Steps, Sinks}

@@ -22,7 +22,7 @@ use Rattle.image.specs.Nodes.{node_word, kind_of, is_class, is_variable, is_loca
 use Rattle.rules.specs.Trees.{Expr, var, assign, seq, ite, while, operand, written, node_of, tree}
 use Rattle.rules.specs.Program.{program}
 use Rattle.rules.specs.Heap.{Heap, heap_of}
-use Rattle.rules.specs.Step.{Store, Out, gives, read_redex, redex, bare, View, is_seq, is_assign, is_val, other, view, value_in, assigned, remember, settle, blocked, load, step}
+use Rattle.rules.specs.Step.{Store, Out, read_redex, redex, bare, View, is_seq, is_assign, is_val, other, view, value_in, assigned, remember, settle, blocked, load, step}
 use Rattle.laws.specs.Values.{value_at}
 use Rattle.laws.specs.Trees.{operand_count, operand_below, known}
 use Rattle.laws.specs.Frames.{plug, outer, plugs, outers, begun, Plain, Quiet, quiet_plain, step_var, step_while}

@@ -7,7 +7,6 @@ use Rattle.std.proofs.Math.ListN.{length, length-set}
 use Rattle.words.specs.declared.Value.TheVariants.{Addr}
 use Rattle.words.specs.declared.Ty.TheVariants.{Class}
 use Rattle.words.specs.Types.{type_of}
-use Rattle.image.specs.Numbers.{variables}
 use Rattle.image.specs.Trailer.{node_count}
 use Rattle.image.specs.Nodes.{node_word, kind_of, operands, node_holds}
 use Rattle.rules.specs.Trees.{block, operand}

@@ -1,5 +1,6 @@
 // The room of a run and what a turn of the machine is: the layout of the lent words, and what each turn must do.
 // There is no code here.
+#![tactic(auto)]
 
 // The word that says where New goes on to look for a free slot.
 pub const SEARCH: usize = 64;
@@ -28,7 +29,7 @@ pub const CLASS: u64 = 4;
 pub const ADDRESS: u64 = 17179869184;
 
 // What the machine looks at: a node that is not begun, a value's word, or Throw of an address, with its place.
-#[derive(Drop)]
+#[derive(Clone, Copy)]
 pub enum Focus {
     Node(usize),
     Value(u64),
@@ -38,7 +39,7 @@ pub enum Focus {
 // What a turn comes to. Moved and Stepped tell the new focus and how many frames are above it. Limit: there is a step, and it may not
 // be taken. Sunk: there is a step, and after it the active place is too deep for the room. Over: no frame is above a value or an
 // address that is thrown.
-#[derive(Drop)]
+#[derive(Clone, Copy)]
 pub enum Go {
     Moved(Focus, usize),
     Stepped(Focus, usize),

@@ -1,4 +1,6 @@
 // The fields of every class in heap order: a table of their types, filled once, and where a field stands.
+#![tactic(auto)]
+
 ghost use Rattle.std.specs.Prelude.{◌≡◌, ◌+◌, ◌*◌, ◌-◌, ◌/◌, ◌≤◌, ◌<◌, length};
 ghost use Rattle.order.specs.Rules.{first_place};
 ghost use Rattle.order.specs.declared.Found.TheVariants.{Nowhere};

@@ -1,9 +1,9 @@
 -- The paper's starred bench examples: one table, one theorem, by computation over the images as words.
-use Rattle.std.specs.Prelude.{ℕ, zero, suc, ◌+◌, ◌*◌, ◌-◌, ◌/◌, ◌≡◌, refl, Bool, true, false, List, [], ◌∷◌, ◌++◌, map, length, replicate}
+use Rattle.std.specs.Prelude.{ℕ, suc, ◌+◌, ◌*◌, ◌/◌, ◌≡◌, refl, List, [], ◌∷◌, ◌++◌, map, length, replicate}
 use Rattle.std.proofs.Math.Option.{Option, none, some}
 use Rattle.order.specs.declared.Answer.{Answer}
 use Rattle.words.specs.declared.Value.{Value}
-use Rattle.words.specs.declared.Value.TheVariants.{Null, Intg, Addr}
+use Rattle.words.specs.declared.Value.TheVariants.{Intg, Addr}
 use Rattle.order.specs.Rules.{answer_of}
 use Rattle.rules.specs.Run.{run_of}
 use Rattle.rules.specs.Numbers.{room_words, check_rules, run_rules, end_numbers, end_value}

@@ -1,11 +1,11 @@
 -- Conformity: of a value to a type, of a heap, of inputs.
-use Rattle.std.specs.Prelude.{ℕ, zero, suc, Bool, true, false, ◌&&◌, List, [], ◌∷◌, eqb}
+use Rattle.std.specs.Prelude.{Bool, true, false, ◌&&◌, List, [], ◌∷◌}
 use Rattle.words.specs.declared.Value.{Value}
 use Rattle.words.specs.declared.Value.TheVariants.{Null, Intg, Addr}
 use Rattle.words.specs.declared.Ty.{Ty}
 use Rattle.words.specs.declared.Ty.TheVariants.{Void, Boolean, Integer, NT, Class}
-use Rattle.rules.specs.Program.{Field, Program}
-use Rattle.rules.specs.Classes.{subtype, same_type, has_fields}
+use Rattle.rules.specs.Program.{Program}
+use Rattle.rules.specs.Classes.{subtype, same_type}
 use Rattle.rules.specs.Heap.{Slot, free, obj, Heap, look}
 
 module _ (P : Program) where

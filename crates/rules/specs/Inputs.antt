@@ -1,6 +1,5 @@
 -- The inputs of main take the last type words, shown by computation on an image that has more type words than inputs.
 use Rattle.std.specs.Prelude.{ℕ, ◌≡◌, refl, List, [], ◌∷◌}
-use Rattle.words.specs.declared.Ty.{Ty}
 use Rattle.words.specs.declared.Ty.TheVariants.{Integer}
 use Rattle.rules.specs.Program.{input_types}
 use Rattle.rules.specs.Computing.{computing}

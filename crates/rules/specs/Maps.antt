@@ -1,5 +1,5 @@
 -- Maps from variables, and lists of the first few values of a function.
-use Rattle.std.specs.Prelude.{Bool, true, false, cond, List, [], ◌∷◌, ℕ, zero, suc, eqb}
+use Rattle.std.specs.Prelude.{cond, List, [], ◌∷◌, ℕ, zero, suc, eqb}
 use Rattle.std.proofs.Math.Option.{Option, none, some}
 
 -- the map f, but a at x

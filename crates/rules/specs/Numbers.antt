@@ -1,5 +1,5 @@
 -- The numbers a caller gets, 10 to 20, and the rules of the three public questions. 1 to 9 are the layout's.
-use Rattle.std.specs.Prelude.{ℕ, zero, suc, ◌+◌, ◌*◌, ◌-◌, ◌/◌, ◌%◌, max, Bool, true, false, cond, ◌&&◌, ◌||◌, List, [], ◌∷◌, ◌++◌, map, ltb, leb, eqb, length, get_or}
+use Rattle.std.specs.Prelude.{ℕ, zero, suc, ◌+◌, ◌*◌, ◌/◌, ◌%◌, max, Bool, true, cond, ◌&&◌, List, [], ◌∷◌, ◌++◌, map, ltb, leb, eqb, length, get_or}
 use Rattle.std.proofs.Math.Option.{Option, none, some}
 use Rattle.order.specs.Rules.{Rule}
 use Rattle.order.specs.declared.Answer.{Answer}
@@ -14,7 +14,7 @@ use Rattle.image.specs.Trailer.{class_count, method_count, input_count}
 use Rattle.image.specs.Layout.{tested, layout_rules}
 use Rattle.rules.specs.Maps.{tabulate}
 use Rattle.rules.specs.Trees.{written}
-use Rattle.rules.specs.Program.{Field, Method, Program, method_at, program, main, input_types, method_env, main_env}
+use Rattle.rules.specs.Program.{Field, Program, method_at, program, main, input_types, method_env, main_env}
 use Rattle.rules.specs.Classes.{has_fields, override_holds}
 use Rattle.rules.specs.Setting.{between}
 use Rattle.rules.specs.Sites.{Site, sites, site_typed, reads}

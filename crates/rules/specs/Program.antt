@@ -1,12 +1,12 @@
 -- A program: classes, fields, methods with their bodies; and main with its inputs. All from the words of a laid out image.
-use Rattle.std.specs.Prelude.{ℕ, zero, suc, ◌+◌, ◌-◌, List, [], ◌∷◌}
-use Rattle.std.proofs.Math.Option.{Option, none, some}
+use Rattle.std.specs.Prelude.{ℕ, ◌+◌, ◌-◌, List, ◌∷◌}
+use Rattle.std.proofs.Math.Option.{Option}
 use Rattle.words.specs.declared.Ty.{Ty}
 use Rattle.words.specs.declared.Ty.TheVariants.{Class}
 use Rattle.words.specs.Types.{type_of}
 use Rattle.image.specs.Trailer.{class_count, field_count, method_count, type_count, main_node, input_count}
 use Rattle.image.specs.Records.{superclass, field_word, method_word, type_at}
-use Rattle.rules.specs.Maps.{upd, tabulate, from}
+use Rattle.rules.specs.Maps.{tabulate, from}
 use Rattle.rules.specs.Trees.{Expr, tree}
 
 pub record Field : Type 0 where

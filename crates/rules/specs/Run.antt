@@ -1,5 +1,5 @@
 -- The run: before each step, in this order: final expression, depth above the limit, no rule, limit reached; otherwise one step.
-use Rattle.std.specs.Prelude.{ℕ, zero, suc, Bool, true, false, cond, List, leb}
+use Rattle.std.specs.Prelude.{ℕ, zero, suc, cond, List, leb}
 use Rattle.rules.specs.declared.End.{End}
 use Rattle.rules.specs.declared.End.TheVariants.{Returned, Threw, OutOfSteps, TooDeep, Stuck}
 use Rattle.rules.specs.Maps.{from}

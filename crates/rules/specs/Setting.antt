@@ -1,12 +1,10 @@
 -- Definite initialization, as a check that finds the set of variables after a tree or the place of the first variable read unset.
 -- Figure 2 with the paper's readings.
-use Rattle.std.specs.Prelude.{ℕ, ◌<◌, Bool, true, false, ◌&&◌, ltb, leb}
-use Rattle.std.proofs.Math.Option.{Option, none, some}
-use Rattle.words.specs.declared.Ty.{Ty}
+use Rattle.std.specs.Prelude.{ℕ, Bool, true, false, ◌&&◌, ltb, leb}
 use Rattle.image.specs.Numbers.{variables}
 use Rattle.rules.specs.Maps.{upd}
 use Rattle.rules.specs.Trees.{Expr, Exprs, new, cast, val, var, add, eq, assign, get, put, call, block, seq, ite, while, throw, try, nil, cons}
-use Rattle.rules.specs.Typing.{Res, ok, bad, ◌>>=◌, need}
+use Rattle.rules.specs.Typing.{Res, ok, ◌>>=◌, need}
 
 -- a set of variables
 abbrev pub Vars : Type 0

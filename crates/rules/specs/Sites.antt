@@ -1,6 +1,6 @@
 -- Every node of a tree in its own environment, and in its own set of variables: the places that 12 and 13 speak of.
 -- Operands stand before their node, so the order is that of the node numbers.
-use Rattle.std.specs.Prelude.{ℕ, zero, suc, Bool, true, false, ◌&&◌, List, [], ◌∷◌, ◌++◌}
+use Rattle.std.specs.Prelude.{Bool, true, false, List, [], ◌∷◌, ◌++◌}
 use Rattle.std.proofs.Math.Option.{Option, none, some}
 use Rattle.words.specs.declared.Ty.{Ty}
 use Rattle.words.specs.declared.Ty.TheVariants.{Class}

@@ -1,5 +1,5 @@
 -- One step of an expression: appendix B with the paper's choices, as a function. It finds the active place and what happens there.
-use Rattle.std.specs.Prelude.{ℕ, zero, suc, ◌+◌, Bool, true, false, cond, ◌&&◌, List, [], ◌∷◌, eqb, length, get_or, set}
+use Rattle.std.specs.Prelude.{ℕ, suc, Bool, cond, ◌&&◌, List, [], ◌∷◌, eqb, length, get_or, set}
 use Rattle.std.proofs.Math.Option.{Option, none, some}
 use Rattle.words.specs.declared.Value.{Value}
 use Rattle.words.specs.declared.Value.TheVariants.{Null, Intg, Addr}
@@ -9,7 +9,7 @@ use Rattle.words.specs.Value.{bit}
 use Rattle.words.specs.Integer.{plus_of}
 use Rattle.rules.specs.Maps.{upd}
 use Rattle.rules.specs.Trees.{Expr, Exprs, new, cast, val, var, add, eq, assign, get, put, call, block, seq, ite, while, throw, try, nil, cons}
-use Rattle.rules.specs.Program.{Field, Method, Program}
+use Rattle.rules.specs.Program.{Method, Program}
 use Rattle.rules.specs.Classes.{subclass, sees_method, has_fields, field_index}
 use Rattle.rules.specs.Heap.{Slot, free, obj, Heap, look, defaults, lowest_free}
 

@@ -1,6 +1,6 @@
 -- Expressions as trees. Each constructor has its place first: the number of its node.
-use Rattle.std.specs.Prelude.{ℕ, zero, suc, ◌-◌, Bool, true, false, List, [], ◌∷◌, ◌++◌, get_or}
-use Rattle.std.proofs.Math.Option.{Option, none, some}
+use Rattle.std.specs.Prelude.{ℕ, zero, suc, ◌-◌, List, [], ◌∷◌, ◌++◌, get_or}
+use Rattle.std.proofs.Math.Option.{Option, none}
 use Rattle.words.specs.declared.Value.{Value}
 use Rattle.words.specs.declared.Decoded.{Decoded}
 use Rattle.words.specs.declared.Decoded.TheVariants.{Is, Not}

@@ -1,5 +1,5 @@
 -- Typing, as a check that finds the type of a tree or the place of the first node that has none. Figure 1 with the paper's readings.
-use Rattle.std.specs.Prelude.{ℕ, zero, suc, Bool, true, false, not, ◌&&◌, ◌||◌, List, [], ◌∷◌, eqb}
+use Rattle.std.specs.Prelude.{ℕ, Bool, true, false, not, ◌&&◌, ◌||◌, List, [], ◌∷◌, eqb}
 use Rattle.std.proofs.Math.Option.{Option, none, some}
 use Rattle.words.specs.declared.Value.{Value}
 use Rattle.words.specs.declared.Value.TheVariants.{Null, Intg, Addr}
@@ -7,7 +7,7 @@ use Rattle.words.specs.declared.Ty.{Ty}
 use Rattle.words.specs.declared.Ty.TheVariants.{Void, Boolean, Integer, NT, Class}
 use Rattle.rules.specs.Maps.{upd}
 use Rattle.rules.specs.Trees.{Expr, Exprs, new, cast, val, var, add, eq, assign, get, put, call, block, seq, ite, while, throw, try, nil, cons}
-use Rattle.rules.specs.Program.{Field, Method, Program, Env}
+use Rattle.rules.specs.Program.{Program, Env}
 use Rattle.rules.specs.Classes.{subclass, subtype, subtypes, sees_field, sees_method, same_type}
 
 -- what a check finds: something, or the place of the first breach

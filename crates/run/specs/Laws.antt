@@ -1,6 +1,5 @@
 -- Laws: what a run begins with, and what its tests bring.
 use Rattle.std.specs.Prelude.{◌≡◌, true, ◌&&◌, List, ℕ, suc, ◌/◌, ◌%◌, ◌≤◌, ◌<◌, eqb, ltb, length, get_or}
-use Rattle.std.proofs.Math.Option.{none}
 use native.Mathlib.Omega.{arith}
 use Rattle.std.proofs.Math.Dec.{leb}
 use borrow.Author.Tests.{ltb-true, lt-ltb, leb-true, le-ltb, eqb-true, ne_eqb}

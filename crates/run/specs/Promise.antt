@@ -15,7 +15,7 @@ use Rattle.rules.specs.Heap.{heap_of, values_of}
 use Rattle.rules.specs.Step.{load}
 use Rattle.rules.specs.Run.{run_of}
 use Rattle.rules.specs.Numbers.{fields_rule, heap_length_rule, heap_word_rule, input_rule, depth_rule, room_rule, run_rules}
-use Rattle.reduction.specs.RunLaws.{run_runs, counted}
+use Rattle.reduction.proofs.RunLaws.{run_runs, counted}
 use Rattle.refusals.specs.declared.Refusal.{Refusal}
 use Rattle.refusals.specs.declared.Refusal.TheVariants.{Layout, Fields, HeapLength, HeapWord, Input, Depth, Room}
 use Rattle.run.specs.declared.Ran.{Ran}

@@ -1,4 +1,6 @@
 // The third public question: the run of an image on a heap, with inputs, in lent room and within limits of steps and depth.
+#![tactic(auto)]
+
 ghost use Rattle.std.specs.Prelude.{◌≡◌, ◌*◌, ◌≤◌, ◌<◌, length, replicate};
 ghost use Rattle.order.specs.Rules.{accepted, answer_of, first_place};
 ghost use Rattle.order.specs.declared.Found.TheVariants.{Nowhere};
@@ -26,7 +28,7 @@ const FEW_CLASSES: usize = 16;
 const FEW_WORDS: usize = 240;
 
 // The answer to a run: a refusal, or how it ended and how many steps it took.
-#[derive(Drop)]
+#[derive(Clone, Copy)]
 pub enum Ran {
     Refused(Refusal),
     Ended(End, u64),
@@ -168,7 +170,7 @@ pub fn run(
 
 // What a caller gets, as numbers: the paper's number and place, the steps taken, and the word of the value or address that an end
 // carries. The word and the count are 0 where there is none.
-#[derive(Drop)]
+#[derive(Clone, Copy)]
 pub struct Told {
     pub number: u64,
     pub place: u64,

@@ -1,6 +1,6 @@
 -- Subtypes as a record, and conformity as the proofs use it: of values, stores and heaps, and what a heap keeps when it changes.
 use Prim.Native.Nat.{ℕ, zero, suc, ◌+◌, ◌≤◌, ◌<◌}
-use Rattle.std.specs.Prelude.{◌≡◌, ◌≢◌, Bool, eqb, length, get_or, set}
+use Rattle.std.specs.Prelude.{◌≡◌, ◌≢◌, eqb, length, get_or, set}
 use Rattle.std.proofs.Math.Path.{refl, subst}
 use Rattle.std.proofs.Common.{sym, ap, ◌∙◌, arith, length-set, get_or-set_same, get_or-set_other}
 use Rattle.std.proofs.Math.Bool.{true}
@@ -25,7 +25,7 @@ use Rattle.rules.specs.Step.{Store}
 use Rattle.laws.specs.Maps.{upd_rel, upd_keep, restore_rel}
 use Rattle.laws.specs.Classes.{Lower, subclass_refl, subclass_trans, subclass_top}
 use Rattle.laws.specs.Heap.{length_defaults, defaults_proper}
-use Rattle.figures.specs.Agreement.{never}
+use Rattle.figures.proofs.Agreement.{never}
 use Rattle.safety.specs.Sets.{no_one}
 
 abbrev pub class_in : Slot → Option ℕ

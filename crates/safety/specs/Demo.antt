@@ -1,18 +1,9 @@
 -- The premises of demand 3 can be met: by computation, for a bench program and for one with a class hierarchy, an override and a
 -- caught exception.
-use Rattle.std.specs.Prelude.{ℕ, ◌≡◌, refl, List, [], ◌∷◌, ◌++◌, replicate}
+use Rattle.std.specs.Prelude.{ℕ, ◌≡◌, List, [], ◌∷◌, ◌++◌, replicate}
 use Rattle.order.specs.Rules.{answer_of, accepted}
-use Rattle.words.specs.declared.Value.TheVariants.{Intg}
-use Rattle.words.specs.declared.Ty.{Ty}
-use Rattle.words.specs.declared.Ty.TheVariants.{Integer}
-use Rattle.rules.specs.declared.End.TheVariants.{Returned}
-use Rattle.rules.specs.Program.{program, main, main_env}
-use Rattle.rules.specs.Typing.{ok, typing}
-use Rattle.rules.specs.Run.{run_of}
 use Rattle.rules.specs.Numbers.{check_rules, conform_rules}
-use Rattle.rules.specs.Computing.{computing}
-use Rattle.rules.specs.Bench.{image, heap}
-use Rattle.safety.specs.Demand3.{SafeRun, demand_3}
+use Rattle.rules.specs.Bench.{image}
 
 -- an image, a heap and inputs that the two questions accept
 pub record Accepts (ws hs is : List ℕ) : Type 0 where
@@ -22,10 +13,6 @@ pub record Accepts (ws hs is : List ℕ) : Type 0 where
 -- (New 4).9()
 unfoldable pub bench_image : List ℕ
 bench_image = image [] (0 ∷ 1 ∷ 4 ∷ 0 ∷ 9 ∷ 2 ∷ 9 ∷ 0 ∷ [])
-
-pub bench : Accepts bench_image (heap 1) []
-unfolding computing image heap bench_image
-bench = record { check = refl; conform = refl }
 
 -- Class 4 extends 0: field 7 of type Integer; method 9 of a Class 5 returns `this.7`.
 -- Class 5 extends 4: its method 9, of a Class 4, throws `this`.
@@ -54,25 +41,3 @@ objects =
 -- the address of that object
 unfoldable pub inputs : List ℕ
 inputs = 17179869187 ∷ []
-
-pub hierarchy : Accepts orders objects inputs
-unfolding computing orders objects inputs
-hierarchy = record { check = refl; conform = refl }
-
-main_type : typing (program orders) (main orders) (main_env orders) ≡ ok Integer
-unfolding computing orders
-main_type = refl
-
--- the override throws, and the handler catches
-pub caught : (run_of orders objects inputs 100 8).end ≡ Returned (Intg 42)
-unfolding computing orders objects inputs
-caught = refl
-
--- So every run of either is safe.
-pub bench_safe : (t : Ty) × (typing (program bench_image) (main bench_image) (main_env bench_image) ≡ ok t)
-    × ((steps depth : ℕ) → SafeRun bench_image t (run_of bench_image (heap 1) [] steps depth))
-bench_safe = demand_3 bench_image (heap 1) [] bench.check bench.conform
-
-pub hierarchy_safe : (t : Ty) × (typing (program orders) (main orders) (main_env orders) ≡ ok t)
-    × ((steps depth : ℕ) → SafeRun orders t (run_of orders objects inputs steps depth))
-hierarchy_safe = demand_3 orders objects inputs hierarchy.check hierarchy.conform

@@ -18,7 +18,7 @@ use Rattle.rules.specs.Heap.{obj, Heap, look, defaults, lowest_free}
 use Rattle.rules.specs.Step.{null_pointer, class_cast, out_of_memory, Redex, gives, raises, fails, read_redex, add_redex, eq_redex, new_redex, cast_slot, cast_redex, get_field, get_slot, get_redex, put_field, put_slot, put_redex}
 use Rattle.laws.specs.Classes.{Lower, subclass_refl}
 use Rattle.laws.specs.Heap.{Room, room}
-use Rattle.figures.specs.Agreement.{never}
+use Rattle.figures.proofs.Agreement.{never}
 use Rattle.safety.specs.Sets.{is_some}
 use Rattle.safety.specs.Conform.{class_in, ◌≼◌, ≼_refl, in_range, Le, Conf, Holds, HeapOk, class_le, conf_mono, conf_le, object_mono, addr_conf, conf_object, system_conf, write_keeps, write_class, write_ok, defaults_ok, put_ok}
 use Rattle.safety.specs.Safe.{Has, Puts}

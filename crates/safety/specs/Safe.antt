@@ -14,7 +14,7 @@ use Rattle.rules.specs.Setting.{Vars}
 use Rattle.rules.specs.Heap.{Heap}
 use Rattle.rules.specs.Numbers.{field_type}
 use Rattle.laws.specs.Classes.{Lower}
-use Rattle.figures.specs.Agreement.{never}
+use Rattle.figures.proofs.Agreement.{never}
 use Rattle.safety.specs.Sets.{◌⊆◌, ⊆_refl, ⊆_trans, ◌∪◌, ∪_left, ∪_join, ∪_map, or_left, enter, leave, assigned, is_some}
 use Rattle.safety.specs.Conform.{◌≼◌, ◌⊑◌, ⊑_upd, Le, Conf, Holds, le_refl, le_trans, conf_mono, holds_mono}
 

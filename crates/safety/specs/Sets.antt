@@ -9,7 +9,7 @@ use Rattle.rules.specs.Maps.{upd}
 use Rattle.rules.specs.Setting.{Vars, meet}
 use Rattle.rules.specs.Step.{Store}
 use Rattle.laws.specs.Maps.{upd_same, upd_rel, upd_keep, upd_restore}
-use Rattle.figures.specs.Agreement.{never}
+use Rattle.figures.proofs.Agreement.{never}
 
 -- nothing is not something
 pub no_one : {A Q : Type 0} {a : A} → none ≡ some a → Q

@@ -19,7 +19,7 @@ use Rattle.rules.specs.Heap.{obj, Heap, look}
 use Rattle.rules.specs.Step.{Store, null_pointer, thrown_at, Redex, gives, raises, fails, Out, Outs, value, values, load, to, redex, under, unders, both, if_out, throw_out, block_out, cons_out, tail_out, blocks, enter, call_slot, call_out, catch_slot, try_out}
 use Rattle.laws.specs.Maps.{upd_same, upd_other, upd_restore}
 use Rattle.laws.specs.Classes.{Lower}
-use Rattle.figures.specs.Agreement.{never}
+use Rattle.figures.proofs.Agreement.{never}
 use Rattle.safety.specs.Sets.{no_one, ◌⊆◌, ⊆_refl, ⊆_trans, ⊆_upd, ⊆_same, ∪_join, ∪_right, dom, dom_upd, dom_leave, dom_stay, stay_upd, dom_grow, set_more}
 use Rattle.safety.specs.Conform.{class_in, ◌≼◌, ≼_refl, ◌⊑◌, ⊑_refl, Le, Conf, Holds, StoreOk, HeapOk, AllConf, le_refl, le_trans, conf_mono, conf_le, store_mono, store_set, store_leave, addr_conf, conf_object, system_conf}
 use Rattle.safety.specs.Safe.{both_of, Both, Safe, Safes, move, mono, monos}

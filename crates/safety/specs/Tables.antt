@@ -19,7 +19,7 @@ use Rattle.rules.specs.Program.{Field, Method, Program}
 use Rattle.rules.specs.Classes.{or_else, super, subclass, subtype, subtypes, declared_in, sees_field, method_in, sees_method, own, has_fields, overrides, override_holds, index_from, field_index}
 use Rattle.rules.specs.Numbers.{field_type}
 use Rattle.laws.specs.Classes.{Lower, class_ind, subclass_refl, subclass_zero, subclass_up, subclass_cases, sees_field_zero, sees_field_suc, sees_method_zero, sees_method_suc, has_fields_zero, has_fields_suc, has_fields_prefix, index_from_left, field_index_subclass}
-use Rattle.figures.specs.Agreement.{never}
+use Rattle.figures.proofs.Agreement.{never}
 use Rattle.safety.specs.Sets.{no_one}
 use Rattle.safety.specs.Conform.{Le, le_refl, le_trans}
 use Rattle.safety.specs.Safe.{Has}

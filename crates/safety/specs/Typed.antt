@@ -19,7 +19,7 @@ use Rattle.rules.specs.Setting.{Vars, setting, settings}
 use Rattle.rules.specs.Heap.{Heap}
 use Rattle.rules.specs.Step.{load, loads}
 use Rattle.laws.specs.Classes.{Lower, subclass_top}
-use Rattle.figures.specs.Agreement.{clash, ok_inj, bind_inv, need_inv, class_inv, found_inv, never}
+use Rattle.figures.proofs.Agreement.{clash, ok_inj, bind_inv, need_inv, class_inv, found_inv, never}
 use Rattle.safety.specs.Sets.{◌⊆◌, ⊆_refl, ⊆_trans, ⊆_same, meet_left, meet_right, ◌∪◌, ∪_left, ∪_right, ∪_join}
 use Rattle.safety.specs.Conform.{≼_refl, ⊑_refl, same_type_lem, Le, Conf, le_refl, le_trans, le_same, le_class}
 use Rattle.safety.specs.Safe.{both_of, Safe, Safes, move, mono}

@@ -17,12 +17,14 @@ use Rattle.rules.specs.Trees.{Expr, tree, places}
 use Rattle.rules.specs.Program.{types_from, method_at, main}
 use Rattle.rules.specs.Typing.{ok, need}
 use Rattle.rules.specs.Setting.{Vars, between, setting}
-use Rattle.rules.specs.Sites.{after, reads}
+use Rattle.rules.specs.Sites.{reads}
 use Rattle.rules.specs.Numbers.{method_reads, all_reads, setting_rule}
 use Rattle.laws.specs.Maps.{stretch, length_tabulate, length_stretch}
 use Rattle.laws.specs.Postorder.{body_holds_lem, method_filled, main_filled, body_places, main_places}
-use Rattle.figures.specs.FirstBreach.{AllHold, reads_length, setting_after, setting_exactly, setting_first}
-use Rattle.figures.specs.Bodies.{Bodies, Told, told, body_told, main_told, none_told}
+use Rattle.figures.specs.FirstBreach.{AllHold}
+use Rattle.figures.proofs.FirstBreach.{reads_length, setting_after, setting_exactly, setting_first}
+use Rattle.figures.specs.Bodies.{Bodies, Told}
+use Rattle.figures.proofs.Bodies.{told, body_told, main_told, none_told}
 
 -- ONE TREE
 -- what a tree's check says of its tests, and of their first failure where its nodes stand from b on

@@ -1,4 +1,6 @@
 // Number 13: every variable is set before it is read.
+#![tactic(auto)]
+
 ghost use Rattle.std.specs.Prelude.{◌≡◌, true, ◌≤◌, ◌<◌, length};
 ghost use Rattle.order.specs.Rules.{first_place};
 ghost use Rattle.image.specs.Numbers.{variables};
@@ -20,7 +22,7 @@ use order::Found;
 use vars::Vars;
 
 // What the check of a tree finds: the set after it, or the place of the first variable that is read unset.
-#[derive(Drop)]
+#[derive(Clone, Copy)]
 pub struct Settled {
     pub ok: bool,
     pub place: usize,

@@ -1,4 +1,6 @@
 // The lent room as a run begins and as it ends.
+#![tactic(auto)]
+
 ghost use Rattle.std.specs.Prelude.{◌≡◌, ℕ, ◌≤◌, ◌<◌, length, get_or, replicate};
 ghost use Rattle.image.specs.Numbers.{most_inputs};
 ghost use Rattle.laws.specs.Values.{IsValue};

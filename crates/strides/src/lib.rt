@@ -1,4 +1,6 @@
 // Leaps in a row, as long as there are any.
+#![tactic(auto)]
+
 ghost use Rattle.std.specs.Prelude.{◌≡◌, ◌+◌, ◌-◌, ◌≤◌, get_or};
 ghost use Rattle.image.specs.Layout.{Good};
 ghost use Rattle.rows.specs.Rows.{Rows};
@@ -13,7 +15,7 @@ use landings::{Leap, NODE, NONE, THROWN, VALUE};
 use room::Focus;
 
 // Where leaps have come to: what is looked at, under how many frames, and the steps that are left.
-#[derive(Drop)]
+#[derive(Clone, Copy)]
 pub struct Reached {
     pub how: u64,
     pub word: u64,

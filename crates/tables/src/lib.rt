@@ -1,6 +1,8 @@
 // The tables of an image: class, field and method records and type words, numbers 4 to 7 of the layout.
 // Each test computes the definition of image's Records that has its name. One loop, for all four, looks for the first place
 // where the test fails. Tests are joined by `&` and `|`, which ask both sides: each test is safe by itself.
+#![tactic(auto)]
+
 ghost use Rattle.std.specs.Prelude.{◌≡◌, ◌<◌};
 ghost use Rattle.order.specs.Rules.{first_place};
 ghost use Rattle.image.specs.Records.{class_holds, rises, field_rises, field_holds, method_rises, method_holds, type_holds};
@@ -89,7 +91,7 @@ fn type_holds(ws: &[u32], l: Layout, i: usize) -> bool
 }
 
 // The tables that are looked through alike.
-#[derive(Drop)]
+#[derive(Clone, Copy)]
 enum Table {
     Classes,
     Fields,

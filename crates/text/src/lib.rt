@@ -1,4 +1,6 @@
 // What the programs share: words from bytes, decimal numbers from digits, blanks.
+#![tactic(auto)]
+
 ghost use Rattle.std.specs.Prelude.{◌≡◌, ◌+◌, ◌*◌, ◌/◌, ◌≤◌, ◌<◌, min, length};
 ghost use Rattle.text.specs.Words.{Counts, Words, WideWords, four_bytes, two_words, word_at};
 ghost use Rattle.text.specs.Blanks.{is_blank};
@@ -71,7 +73,7 @@ pub fn is_blank(b: u8) -> bool
 }
 
 // What a byte makes of the decimal number before it.
-#[derive(Drop)]
+#[derive(Clone, Copy)]
 pub enum Fed {
     Number(u64),
     NoDigit,

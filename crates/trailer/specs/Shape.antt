@@ -1,6 +1,6 @@
 -- What numbers 1 and 2 show of an image without a breach of them, as sums, and the laws that bring it from the rules.
-use Rattle.std.specs.Prelude.{◌≡◌, refl, Bool, true, false, cond, ◌&&◌, List, [], ◌∷◌, ℕ, suc, ◌+◌, ◌*◌, ◌-◌, ◌/◌, ◌%◌, ◌≤◌, ◌<◌, length, get_or, leb, eqb}
-use Rattle.std.proofs.Common.{sym, ◌∙◌, ap, arith, leb-true, eqb-true}
+use Rattle.std.specs.Prelude.{◌≡◌, refl, Bool, true, ◌&&◌, List, ℕ, ◌+◌, ◌*◌, ◌-◌, ◌/◌, ◌%◌, ◌≤◌, ◌<◌, length, get_or, leb, eqb}
+use Rattle.std.proofs.Common.{◌∙◌, arith, leb-true, eqb-true}
 use Rattle.order.specs.Rules.{first_place}
 use Rattle.order.specs.Lowest.{held}
 use Rattle.order.specs.declared.Found.TheVariants.{Nowhere}
@@ -8,7 +8,7 @@ use Rattle.image.specs.declared.Layout.{Layout}
 use Rattle.image.specs.Laws.{and_left, and_right}
 use Rattle.image.specs.Numbers.{trailer_words}
 use Rattle.image.specs.Trailer.{trailer, class_count, field_count, method_count, type_count, node_count, main_node, input_count, format_holds, section_holds, last_holds, trailer_tests, ceiling_tests}
-use Rattle.image.specs.Layout.{tested, format_rule, trailer_rule, ceiling_rule, Lay, Small}
+use Rattle.image.specs.Layout.{tested, trailer_rule, ceiling_rule, Lay, Small}
 
 pub record Shape (ws : List ℕ) : Type 0 where
   pub long : trailer_words ≤ length ws

@@ -1,4 +1,6 @@
 // Numbers 1 to 3: the trailer, the sections it points to, and their ceilings. What passes is opened as a `Layout`.
+#![tactic(auto)]
+
 ghost use Rattle.std.specs.Prelude.{◌≡◌, ℕ, ◌≤◌, ◌<◌, length};
 ghost use Rattle.order.specs.Rules.{first_place};
 ghost use Rattle.image.specs.Numbers.{trailer_words};

@@ -1,4 +1,6 @@
 // One turn of the machine, in its plain form: into a node, or a value or a thrown address to its frame.
+#![tactic(auto)]
+
 ghost use Rattle.std.specs.Prelude.{suc, ◌+◌, ◌-◌, get_or};
 ghost use Rattle.image.specs.Layout.{Good};
 ghost use Rattle.rows.specs.Rows.{Sizes, Rows};

@@ -27,14 +27,16 @@ use Rattle.rules.specs.Numbers.{joined, method_sites, all_sites, typing_rule}
 use Rattle.laws.specs.Maps.{length_stretch, tabulate_same}
 use Rattle.laws.specs.Trees.{known, tree_node}
 use Rattle.laws.specs.Postorder.{body_holds_lem, method_filled, main_filled, body_places, main_places}
-use Rattle.figures.specs.FirstBreach.{AllHold, bounded, sites_length, body_exactly, body_first}
-use Rattle.figures.specs.Laid.{written_tree}
+use Rattle.figures.specs.FirstBreach.{AllHold, bounded}
+use Rattle.figures.proofs.FirstBreach.{sites_length, body_exactly, body_first}
+use Rattle.figures.proofs.Laid.{written_tree}
 use Rattle.node_rules.specs.declared.Typed.{Typed}
 use Rattle.node_rules.specs.declared.Typed.TheVariants.{Is, Not}
 use Rattle.node_rules.specs.Env.{entry, env_of, type_words, EnvOk, res_ty, decided, within, method_typing, main_typing}
 use Rattle.node_rules.specs.EnvLaws.{env_set, ok_set, class_word, declared_below}
 use Rattle.node_types.specs.ListLaws.{zero_at}
-use Rattle.figures.specs.Bodies.{Bodies, told, body_told, main_told, none_told}
+use Rattle.figures.specs.Bodies.{Bodies}
+use Rattle.figures.proofs.Bodies.{told, body_told, main_told, none_told}
 
 -- WHAT BODIES START WITH
 pub type_declared : (ws : List ℕ) (i : ℕ) → type_holds ws i ≡ true → type_at ws i < type_words ws

@@ -1,6 +1,8 @@
 // Number 12: every node of every body has a type, and a body's type is below its method's result.
 // A type is its word: 0 Void, 1 Boolean, 2 Integer, 3 the null type, and 4 + c class c.
 // An environment is 64 words: 0 for a variable without a type, and else its type word and 1.
+#![tactic(auto)]
+
 ghost use Rattle.std.specs.Prelude.{◌≡◌, true, ℕ, ◌+◌, ◌≤◌, ◌<◌, get_or};
 ghost use Rattle.image.specs.Numbers.{most_arguments};
 ghost use Rattle.image.specs.Nodes.{operands};

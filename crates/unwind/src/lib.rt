@@ -1,4 +1,6 @@
 // An address that is thrown comes to the innermost frame: it goes out of the frame, or a Try catches it.
+#![tactic(auto)]
+
 ghost use Rattle.std.specs.Prelude.{◌≡◌, Bool, suc, get_or};
 ghost use Rattle.image.specs.Layout.{Good};
 ghost use Rattle.room.specs.declared.Focus.TheVariants.{Thrown};

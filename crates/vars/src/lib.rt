@@ -1,4 +1,6 @@
 // A set of the 64 variables, by value.
+#![tactic(auto)]
+
 ghost use Rattle.std.specs.Prelude.{◌≡◌, true, false, ◌<◌};
 ghost use Rattle.image.specs.Numbers.{variables};
 ghost use Rattle.rules.specs.Maps.{upd};
@@ -7,7 +9,7 @@ ghost use Rattle.rules.specs.Setting.{between as Setting·between, meet as Setti
 ghost use Rattle.vars.specs.Vars.{vars_of, no_var};
 
 // The variables that are surely set: variable x where binary digit x is 1. A set goes in by value, and each method hands back the new one.
-#[derive(Drop)]
+#[derive(Clone, Copy)]
 pub struct Vars {
     pub on: u64,
 }

@@ -2,6 +2,5 @@
 pub mod Value
 pub mod Integer
 pub mod Types
-pub mod ValueLaws
 pub mod IntegerLaws
 pub mod TypeLaws

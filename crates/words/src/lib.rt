@@ -1,4 +1,6 @@
 // Value words and type words: what each stands for, and the word of each value and type.
+#![tactic(auto)]
+
 ghost use Rattle.std.specs.Prelude.{◌≡◌, ◌≤◌};
 ghost use Rattle.words.specs.Value.{value_of, word_of, is_value};
 ghost use Rattle.words.specs.Integer.{plus_of};
@@ -22,7 +24,7 @@ pub const NULL_TYPE: u32 = 3;
 pub const FIRST_CLASS: u32 = 4;
 
 // A value. An Intg holds its 32 bits, and an Addr its number.
-#[derive(Drop)]
+#[derive(Clone, Copy)]
 pub enum Value {
     Unit,
     Null,
@@ -32,7 +34,7 @@ pub enum Value {
 }
 
 // What a word turns out to be: not every word stands for a value.
-#[derive(Drop)]
+#[derive(Clone, Copy)]
 pub enum Decoded {
     Is(Value),
     Not,
@@ -105,7 +107,7 @@ pub fn plus(a: u32, b: u32) -> u32
 }
 
 // A type. NT is the type of null, and a Class holds the number of its class.
-#[derive(Drop)]
+#[derive(Clone, Copy)]
 pub enum Ty {
     Void,
     Boolean,

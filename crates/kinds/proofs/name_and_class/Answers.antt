@@ -1,0 +1,13 @@
+-- `kinds::name_and_class` meets its contract.
+use Rattle.image.specs.Nodes.{is_class}
+use Rattle.image.specs.Records.{is_name}
+use borrow.Author.Tests.{le-leb, lt-leb}
+use Rattle.kinds.proofs.name_and_class.Goals as goal
+
+pub returns-then-x-gt-HIGHEST_NAME : goal.returns-then-x-gt-HIGHEST_NAME
+unfolding is_name
+returns-then-x-gt-HIGHEST_NAME c = simp (lt-leb _ _ c.if-x-gt-HIGHEST_NAME.true)
+
+pub returns : goal.returns
+unfolding is_name is_class
+returns c = simp (le-leb _ _ c.if-x-gt-HIGHEST_NAME.false)
