@@ -1,11 +1,9 @@
-//! The proved library, through its C functions. On x86-64 a result is C's. Compiled anew for Arm, a function takes the place of its result
-//! as a first argument.
+//! The proved library, through its C functions.
 
 use crate::cases::Case;
 use crate::Found;
 
 #[repr(C)]
-#[derive(Default)]
 struct Answer {
     number: u64,
     place: u64,
@@ -18,22 +16,10 @@ macro_rules! questions {
         mod c {
             use super::Answer;
             extern "C" {
-                $(
-                    #[cfg(target_arch = "aarch64")]
-                    pub fn $name(to: *mut Answer, $($arg: $type),*);
-                    #[cfg(not(target_arch = "aarch64"))]
-                    pub fn $name($($arg: $type),*) -> Answer;
-                )*
+                $(pub fn $name($($arg: $type),*) -> Answer;)*
             }
         }
         $(
-            #[cfg(target_arch = "aarch64")]
-            unsafe fn $name($($arg: $type),*) -> Found {
-                let mut a = Answer::default();
-                c::$name(&mut a, $($arg),*);
-                (a.number, a.place, a.count, a.value)
-            }
-            #[cfg(not(target_arch = "aarch64"))]
             unsafe fn $name($($arg: $type),*) -> Found {
                 let a = c::$name($($arg),*);
                 (a.number, a.place, a.count, a.value)

@@ -1,7 +1,7 @@
 /*
  * What box.c and calls.c use of the C library that the kit has for x86-64 Linux. The kit has that library and a compiler, but no
- * headers, and the headers of a machine with another processor lay out its structs another way. tools/kit-cc gives each header
- * that they ask for this text. A host that is built with its own machine's compiler uses its own machine's headers.
+ * headers. tools/kit-cc gives each header that they ask for this text. A host that is built with its own machine's compiler uses its
+ * own machine's headers.
  */
 #ifndef MUTHAVERI_KIT_H
 #define MUTHAVERI_KIT_H

@@ -204,30 +204,17 @@ pub mod numbers {
     }
 }
 
-// The C functions. On x86-64 an answer comes back as C returns it. The object that is compiled anew for Arm takes the place of its answer
-// as an ordinary first argument, which is not how C on Arm returns four words.
+// The C functions.
 mod c {
     use super::MuthaveriAnswer;
 
     macro_rules! questions {
         ($($short:ident is $name:ident($($arg:ident: $type:ty),*);)*) => {
             extern "C" {
-                $(
-                    #[cfg(target_arch = "aarch64")]
-                    fn $name(to: *mut MuthaveriAnswer, $($arg: $type),*);
-                    #[cfg(not(target_arch = "aarch64"))]
-                    fn $name($($arg: $type),*) -> MuthaveriAnswer;
-                )*
+                $(fn $name($($arg: $type),*) -> MuthaveriAnswer;)*
             }
             $(
                 // Safety: each pointer is that of the first of so many words, and no word that is written is lent a second time.
-                #[cfg(target_arch = "aarch64")]
-                pub unsafe fn $short($($arg: $type),*) -> MuthaveriAnswer {
-                    let mut answer = MuthaveriAnswer::default();
-                    $name(&mut answer, $($arg),*);
-                    answer
-                }
-                #[cfg(not(target_arch = "aarch64"))]
                 pub unsafe fn $short($($arg: $type),*) -> MuthaveriAnswer {
                     $name($($arg),*)
                 }
