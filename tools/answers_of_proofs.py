@@ -12,13 +12,9 @@ import os
 import re
 import sys
 
-WORD = r"[^\s(){}.;,@\"«»\[\]\\|]+"
+from respell_names import WORD, read
+
 plain = lambda it: re.sub("_lem$", "", it).replace("_", "-").lower()
-
-
-def read(path):
-    with open(path, encoding="utf-8") as it:
-        return it.read()
 
 
 def write(path, text):

@@ -11,17 +11,8 @@ import os
 import re
 import sys
 
-WORD = r"[^\s(){}.;,@\"«»\[\]\\|]+"
-
-
-def read(path):
-    with open(path, encoding="utf-8") as it:
-        return it.read()
-
-
-def write(path, text):
-    with open(path, "w", encoding="utf-8") as it:
-        it.write(text)
+from answers_of_proofs import write
+from respell_names import WORD, read
 
 
 def blocks(lines, indent):

@@ -34,6 +34,9 @@ const NAME_TAKEN: u64 = 9;
 
 const NO_NUMBER: u64 = 10;
 
+// The system's number for an operation that is not permitted.
+const EPERM: i32 = 1;
+
 // How many words, or bytes, are at the start of a buffer, and what went wrong; 0 where nothing did.
 #[derive(Clone, Copy)]
 pub struct Taken {
@@ -94,7 +97,7 @@ fn take(rt: &(impl Env + Files), argument: usize, space: &mut [u8], width: usize
     };
     match fs::open(rt, path) {
         Ok(file) => read(file, space, width),
-        Err(e) => failed(not_opened(e.kind())),
+        Err(e) => failed(not_opened(&e)),
     }
 }
 
@@ -104,10 +107,11 @@ fn failed(fault: u64) -> Taken
     Taken { count: 0, fault }
 }
 
-fn not_opened(kind: ErrorKind) -> u64 {
-    match kind {
+// std has one kind for EACCES and EPERM, and only the first says that the file may not be read.
+fn not_opened(e: &io::Error) -> u64 {
+    match e.kind() {
         ErrorKind::NotFound => NO_FILE,
-        ErrorKind::PermissionDenied => NOT_ALLOWED,
+        ErrorKind::PermissionDenied if e.raw_os_error() != Some(EPERM) => NOT_ALLOWED,
         _ => NOT_OPENED,
     }
 }

@@ -1,4 +1,5 @@
-// The three public questions for a caller in C or Rust: any image, heap, inputs, room and limits may be asked, and four numbers come back.
+// The three public questions: any image, heap, inputs, room and limits may be asked, and four numbers come back. The crate `muthaveri_c`
+// hands them out to C.
 #![tactic(auto)]
 
 ghost use Rattle.std.specs.Prelude.{◌≡◌, length};
@@ -30,16 +31,14 @@ fn told(a: Answer) -> MuthaveriAnswer
 }
 
 // May this image be let in?
-#[unsafe(no_mangle)]
-pub extern "C" fn muthaveri_check(image: &[u32]) -> MuthaveriAnswer
+pub fn muthaveri_check(image: &[u32]) -> MuthaveriAnswer
     ensures { result ≡ check_answer image.now }
 {
     told(image_check::check_answer(image))
 }
 
 // Do this heap and these inputs fit the image?
-#[unsafe(no_mangle)]
-pub extern "C" fn muthaveri_conform(image: &[u32], heap: &[u64], inputs: &[u64]) -> MuthaveriAnswer
+pub fn muthaveri_conform(image: &[u32], heap: &[u64], inputs: &[u64]) -> MuthaveriAnswer
     ensures { result ≡ conform_answer image.now heap.now inputs.now }
 {
     told(conform::conformity(image, heap, inputs))
@@ -47,8 +46,7 @@ pub extern "C" fn muthaveri_conform(image: &[u32], heap: &[u64], inputs: &[u64])
 
 // The run of the image on the heap, with main's inputs, in lent room: at most so many steps, and at most so deep. A refusal changes no
 // word; at an end the heap is as the steps left it, and the room is all 0.
-#[unsafe(no_mangle)]
-pub extern "C" fn muthaveri_run(
+pub fn muthaveri_run(
     image: &[u32],
     heap: &mut [u64],
     inputs: &[u64],
