@@ -4,91 +4,109 @@
 //     run IMAGE HEAP INPUTS STEPS DEPTH [OUT]
 // The answer is that of a case whose name is the question, without the heap. What is wrong with an argument is
 // told as of the line with its number.
-ghost use Rattle.std.specs.Prelude.{◌≡◌, ◌≤◌, length};
+ghost use Rattle.std.specs.Prelude.{◌≡◌, ◌≤◌, IfOk};
 
 use crate::questions;
 use crate::questions::Limits;
-use lines::{faults, print};
+use cases::MOST_WORDS;
+use files::MOST_BYTES;
+use lines::faults::Fault;
+use lines::heads::Question;
+use lines::print;
 use run::Told;
 use std::env::Env;
 use std::fs::Files;
 use std::io;
 
-// The number of the first end; a lower one is a refusal.
-const FIRST_END: u64 = 30;
+// The bytes of the longest image.
+const IMAGE_BYTES: usize = 4 * MOST_WORDS;
 
-// The deepest limit, and the room that it takes: 16 words for each level, and 160 more.
+// The most inputs, and their bytes.
+const MOST_INPUTS: usize = 1024;
+
+const INPUT_BYTES: usize = 8 * MOST_INPUTS;
+
+// The deepest limit, and the room that it takes. `refusals` has these figures for itself alone: where they were others here, a room would
+// be refused that is too small.
 const MOST_DEPTH: u64 = 1024;
 
-const MOST_ROOM: usize = 16544;
+const LEVEL_WORDS: usize = 16;
+
+const MORE_WORDS: usize = 160;
+
+const MOST_ROOM: usize = LEVEL_WORDS * MOST_DEPTH as usize + MORE_WORDS;
+
+// What keeps a question from being answered: an argument, by its number, or the output.
+#[derive(Drop)]
+enum Stop {
+    Argument(u64, files::Fault),
+    Output(io::Error),
+}
+
+impl From<io::Error> for Stop {
+    fn from(e: io::Error) -> Stop {
+        Stop::Output(e)
+    }
+}
+
+// What an argument gives.
+fn at<T: Drop>(argument: u64, given: Result<T, files::Fault>) -> Result<T, Stop>
+    ensures { IfOk result (λ x. given ≡ Ok x) }
+{
+    given.map_err(|fault| Stop::Argument(argument, fault))
+}
 
 // Kept out of `main`, so that the stack has the memory of one of the two ways alone.
 #[inline(never)]
 pub fn answer(rt: &(impl Env + Files + Print)) -> io::Result<()> {
+    match ask(rt) {
+        Ok(()) => Ok(()),
+        Err(Stop::Argument(argument, fault)) => print::wrong(rt, argument, Fault::at_head(fault)),
+        Err(Stop::Output(e)) => Err(e),
+    }
+}
+
+// Nothing is taken from a heap: each file has fixed memory, and what was read of it is cut off at once. Which question it is, is asked at
+// each step, since each has large memory of its own on the stack: one match at the top would hold all of it for every question.
+fn ask(rt: &(impl Env + Files + Print)) -> Result<(), Stop> {
     let mut name = [0u8; 8];
     let n = rt.arg(1, &mut name).unwrap_or(0);
-    if &name[..n] == b"run".as_slice() && has_bad_limit(rt)? {
+    let question = Question::of(&name[..n]);
+    if question == Some(Question::Run) {
+        at(5, files::number(rt, 5))?;
+        at(6, files::number(rt, 6))?;
+    }
+    let mut space = text::zeros::<u8, IMAGE_BYTES>();
+    let mut words = text::zeros::<u32, MOST_WORDS>();
+    let n = at(2, files::words(rt, 2, &mut space, &mut words))?;
+    let image = &words[..n];
+    if question == Some(Question::Check) {
+        print::name(rt, b"check")?;
+        print::answer(rt, questions::check(image))?;
         return Ok(());
     }
-    let mut space = files::space();
-    let most = 524288;
-    let mut words = cases::words();
-    let image = files::image(rt, 2, &mut space[0..most], &mut words);
-    if failed(rt, image.fault, 2)? {
-        return Ok(());
-    }
-    let k = image.count;
-    ask(rt, &name[..n], &words[..k])
-}
-
-fn has_bad_limit(rt: &(impl Env + Print)) -> io::Result<bool> {
-    let steps = files::number(rt, 5);
-    let depth = files::number(rt, 6);
-    Ok(failed(rt, steps.fault, 5)? || failed(rt, depth.fault, 6)?)
-}
-
-// Tells of a fault, where there is one.
-fn failed(rt: &impl Print, fault: u64, argument: u64) -> io::Result<bool> {
-    if fault == 0 {
-        return Ok(false);
-    }
-    print::wrong(rt, argument, faults::at_head(fault))?;
-    Ok(true)
-}
-
-fn ask(rt: &(impl Env + Files + Print), question: &[u8], image: &[u32]) -> io::Result<()> {
-    if question == b"check".as_slice() {
-        print::name(rt, question)?;
-        return print::answer(rt, questions::check(image));
-    }
-    let mut space = files::space();
-    let mut words = cases::one_part();
-    let heap = files::words(rt, 3, &mut space, &mut words);
-    if failed(rt, heap.fault, 3)? {
-        return Ok(());
-    }
-    let n = heap.count;
-    ask_on(rt, question, image, &mut words[..n])
+    ask_on(rt, question, image)
 }
 
 fn ask_on(
     rt: &(impl Env + Files + Print),
-    question: &[u8],
+    question: Option<Question>,
     image: &[u32],
-    heap: &mut [u64],
-) -> io::Result<()> {
-    let mut space = [0u8; 8192];
-    let mut words = [0u64; 1024];
-    let inputs = files::words(rt, 4, &mut space, &mut words);
-    if failed(rt, inputs.fault, 4)? {
+) -> Result<(), Stop> {
+    let mut space = text::zeros::<u8, MOST_BYTES>();
+    let mut words = text::zeros::<u64, MOST_WORDS>();
+    let n = at(3, files::words(rt, 3, &mut space, &mut words))?;
+    let heap = &mut words[..n];
+    let mut space = text::zeros::<u8, INPUT_BYTES>();
+    let mut words = text::zeros::<u64, MOST_INPUTS>();
+    let n = at(4, files::words(rt, 4, &mut space, &mut words))?;
+    let inputs = &words[..n];
+    if question == Some(Question::Conform) {
+        print::name(rt, b"conform")?;
+        print::answer(rt, questions::conformity(image, heap, inputs))?;
         return Ok(());
     }
-    let n = inputs.count;
-    if question == b"conform".as_slice() {
-        print::name(rt, question)?;
-        return print::answer(rt, questions::conformity(image, heap, &words[..n]));
-    }
-    run_on(rt, image, heap, &words[..n])
+    run_on(rt, image, heap, inputs)
 }
 
 fn run_on(
@@ -96,33 +114,25 @@ fn run_on(
     image: &[u32],
     heap: &mut [u64],
     inputs: &[u64],
-) -> io::Result<()> {
-    let steps = files::number(rt, 5);
-    let depth = files::number(rt, 6);
+) -> Result<(), Stop> {
     let l = Limits {
-        steps: steps.number,
-        depth: depth.number,
+        steps: files::number(rt, 5).unwrap_or(0),
+        depth: files::number(rt, 6).unwrap_or(0),
     };
-    let mut room = room_space();
+    let mut room = text::zeros::<u64, MOST_ROOM>();
     let n = room_words(l.depth);
-    let t = questions::told(image, heap, inputs, &mut room[0..n], l);
+    let t = questions::told(image, heap, inputs, &mut room[..n], l);
     end(rt, t, heap)
 }
 
 // What cannot be kept is an error, and then no answer is written.
-fn end(rt: &(impl Env + Files + Print), t: Told, heap: &[u64]) -> io::Result<()> {
-    if FIRST_END <= t.number && failed(rt, files::keep(rt, 7, heap), 7)? {
-        return Ok(());
+fn end(rt: &(impl Env + Files + Print), t: Told, heap: &[u64]) -> Result<(), Stop> {
+    if print::FIRST_END <= t.number {
+        at(7, files::keep(rt, 7, heap))?;
     }
     print::name(rt, b"run")?;
-    print::ran(rt, t.number, t.place, t.count, t.value, &[])
-}
-
-// The contract spares the prover to count the zeros.
-fn room_space() -> [u64; 16544]
-    ensures { 16544 ≡ length result }
-{
-    [0; 16544]
+    questions::ran(rt, t, &[])?;
+    Ok(())
 }
 
 // The room that a depth asks for. A depth over the limit is refused with any room.
@@ -132,5 +142,5 @@ fn room_words(depth: u64) -> usize
     if MOST_DEPTH < depth {
         return MOST_ROOM;
     }
-    16 * depth as usize + 160
+    LEVEL_WORDS * depth as usize + MORE_WORDS
 }

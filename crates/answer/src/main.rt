@@ -12,103 +12,78 @@
 mod arguments;
 mod questions;
 
-ghost use Rattle.std.specs.Prelude.{◌≡◌, ◌≤◌, ◌<◌, length, IfOk};
-ghost use Rattle.cases.specs.Kept.{Within};
+ghost use Rattle.std.specs.Prelude.{◌≤◌, ◌<◌, length};
 
-use cases::Line;
-use lines::{faults, print};
+use cases::{Line, MOST_NUMBERS, MOST_WORDS};
+use lines::faults::{Fault, Kind};
+use lines::print;
+use questions::Memory;
 use std::env::{Env, FillError};
 use std::io;
 use std::io::{Input, Read};
 
-// Where the reading stands: the line so far, how many bytes of the piece are read and how many there
-// are, and how many turns are left: 0 once the input has ended.
-#[derive(Clone, Copy)]
-struct Reader {
-    line: Line,
+const PIECE: usize = 65536;
+
+// Where the reading stands: the line so far, a piece of the input, how many of its bytes are read and how many
+// there are, and whether the input has ended. The piece is lent memory and is read in steps, so the two counts stand beside it.
+#[derive(Drop)]
+struct Reader<'a> {
+    line: Line<'a>,
+    piece: &'a mut [u8],
     at: usize,
     count: usize,
-    left: u64,
+    is_ended: bool,
+    ghost read_fits: { at ≤ count },
+    ghost count_fits: { count ≤ length piece.now },
+    ghost has_place: { 0 < length piece.now },
 }
 
-// Reads a piece where there is none. The input's end counts as that of a line.
-fn fill(rt: &impl Print, input: &mut impl Read, r: Reader, piece: &mut [u8]) -> io::Result<Reader>
-    requires { (r.count ≤ length piece.old) × (0 < length piece.old) × (0 < r.left) }
-    ensures { IfOk result (λ s. (s.count ≤ length piece.old) × (0 < s.left) × (s.left ≤ r.left) × (s.line.head ≡ r.line.head) × (s.line.numbers ≡ r.line.numbers) × (s.line.bars ≡ r.line.bars)) }
-{
-    if r.at < r.count {
-        return Ok(r);
-    }
-    let mut s = r;
-    s.at = 0;
-    match input.read(piece) {
-        Ok(0) => {
-            piece[0] = b'\n';
-            s.count = 1;
-            s.left = 1;
+impl<'a> Reader<'a> {
+    // Reads a piece where there is none. The input's end counts as that of a line.
+    fn fill(&mut self, rt: &impl Print, input: &mut impl Read) -> io::Result<()> {
+        if self.at < self.count {
+            return Ok(());
         }
-        Ok(n) => s.count = n,
-        Err(_) => {
-            let line = r.line;
-            print::wrong(rt, line.number, faults::at_head(faults::NO_INPUT))?;
-            s.count = 0;
-            s.left = 1;
+        self.at = 0;
+        match input.read(self.piece) {
+            Ok(0) => {
+                self.piece[0] = b'\n';
+                self.count = 1;
+                self.is_ended = true;
+            }
+            Ok(n) => self.count = n,
+            Err(_) => {
+                print::wrong(rt, self.line.number, Fault::at_head(Kind::NoInput))?;
+                self.count = 0;
+                self.is_ended = true;
+            }
         }
+        Ok(())
     }
-    Ok(s)
+
+    // Reads on, to the end of the line or of the piece.
+    fn read(&mut self, rt: &impl Print, input: &mut impl Read) -> io::Result<()> {
+        self.fill(rt, input)?;
+        self.at += self.line.read(&self.piece[self.at..self.count]);
+        Ok(())
+    }
 }
 
-// Reads on, to the end of the line or of the piece.
-fn take(
-    rt: &impl Print,
-    input: &mut impl Read,
-    r: Reader,
-    piece: &mut [u8],
-    head: &mut [u8],
-    numbers: &mut [u64],
-    bars: &mut [usize; 16],
-) -> io::Result<Reader>
-    requires { (r.count ≤ length piece.old) × (0 < length piece.old) × (0 < r.left) × Within r.line head.old numbers.old }
-    ensures { IfOk result (λ s. (s.count ≤ length piece.old) × (s.left < r.left) × Within s.line head.old numbers.old) }
-{
-    let filled = fill(rt, input, r, piece)?;
-    let line = filled.line;
-    let n = filled.count;
-    let reached = cases::read(line, &piece[0..n], filled.at, head, numbers, bars);
-    let next = reached.line;
-    Ok(Reader {
-        line: next,
-        at: reached.at,
-        count: n,
-        left: filled.left - 1,
-    })
-}
-
-// A proved loop has to end, and nothing says that the input does: the turns count down from a number
-// that no run uses up.
+// A proved loop has to end, and nothing says that the input does: there are more turns than any run uses up.
 fn read_all(
     rt: &impl Print,
     input: &mut impl Read,
-    piece: &mut [u8],
-    head: &mut [u8],
-    numbers: &mut [u64],
-    words: &mut [u32],
-    inputs: &mut [u64],
-    room: &mut [u64],
-) -> io::Result<()>
-    requires { 0 < length piece.old }
-{
-    let mut bars = [0usize; 16];
-    let mut r = Reader {
-        line: cases::begun(1),
-        at: 0,
-        count: 0,
-        left: u64::MAX,
-    };
-    while r.left > 0 {
-        r = take(rt, input, r, piece, head, numbers, &mut bars)?;
-        let line = r.line;
-        questions::answer(rt, line, head, numbers, &bars, words, inputs, room)?;
+    reader: &mut Reader<'_>,
+    memory: &mut Memory<'_>,
+) -> io::Result<()> {
+    for _ in 0..u64::MAX {
+        reader.read(rt, input)?;
+        if reader.line.is_whole {
+            questions::answer(rt, &mut reader.line, memory)?;
+        }
+        if reader.is_ended {
+            break;
+        }
     }
     Ok(())
 }
@@ -129,27 +104,23 @@ fn has_arguments(rt: &impl Env) -> bool {
 #[inline(never)]
 fn answer_input(rt: &(impl Input + Print)) -> io::Result<()> {
     let mut input = rt.reader();
-    let mut piece = piece_space();
+    let mut piece = text::zeros::<u8, PIECE>();
     let mut head = [0u8; 96];
-    let mut numbers = cases::numbers();
-    let mut words = cases::words();
-    let mut inputs = cases::one_part();
-    let mut room = cases::one_part();
-    read_all(
-        rt,
-        &mut input,
-        &mut piece,
-        &mut head,
-        &mut numbers,
-        &mut words,
-        &mut inputs,
-        &mut room,
-    )
-}
-
-// The contract spares the prover to count the zeros.
-fn piece_space() -> [u8; 65536]
-    ensures { 65536 ≡ length result }
-{
-    [0; 65536]
+    let mut numbers = text::zeros::<u64, MOST_NUMBERS>();
+    let mut words = text::zeros::<u32, MOST_WORDS>();
+    let mut inputs = text::zeros::<u64, MOST_WORDS>();
+    let mut room = text::zeros::<u64, MOST_WORDS>();
+    let mut reader = Reader {
+        line: Line::new(1, &mut head, &mut numbers),
+        piece: &mut piece,
+        at: 0,
+        count: 0,
+        is_ended: false,
+    };
+    let mut memory = Memory {
+        words: &mut words,
+        inputs: &mut inputs,
+        room: &mut room,
+    };
+    read_all(rt, &mut input, &mut reader, &mut memory)
 }

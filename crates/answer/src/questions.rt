@@ -1,50 +1,34 @@
-// The questions. A new one is a line in `lines::heads::look_up`, one in `ask`, and its function.
-ghost use Rattle.std.specs.Prelude.{◌≤◌, length};
-ghost use Rattle.cases.specs.Kept.{Within};
-
+// The questions. A new one is a variant of `lines::heads::Question` with its word and its parts, an arm in `answer`, and
+// its function.
 use cases::Line;
+use lines::heads::Question;
 use lines::{heads, parts, print};
 use order::Answer;
 use run::Told;
 use std::io;
 
-// Answers a line that is whole and not empty. Its numbers are where the line has them; the image's words,
-// and what has to be lent beside the heap, go into memory of their own.
-pub fn answer(
-    rt: &impl Print,
-    l: Line,
-    head: &[u8],
-    numbers: &mut [u64],
-    bars: &[usize; 16],
-    words: &mut [u32],
-    inputs: &mut [u64],
-    room: &mut [u64],
-) -> io::Result<()>
-    requires { Within l head.now numbers.old }
-{
-    if !l.is_whole {
-        return Ok(());
-    }
-    let image = parts::image(numbers, bars, words);
-    let question = heads::question(rt, l, image, head, numbers, bars)?;
-    let n = image.count;
-    ask(rt, question, &words[0..n], numbers, bars, inputs, room)
+// Memory for what has to lie beside the numbers of a line: the image's words, and what is lent beside the heap. Nothing is taken from a
+// heap: all of it is fixed memory of `answer_input`.
+#[derive(Drop)]
+pub struct Memory<'a> {
+    pub words: &'a mut [u32],
+    pub inputs: &'a mut [u64],
+    pub room: &'a mut [u64],
 }
 
-fn ask(
-    rt: &impl Print,
-    question: u64,
-    image: &[u32],
-    numbers: &mut [u64],
-    bars: &[usize; 16],
-    inputs: &mut [u64],
-    room: &mut [u64],
-) -> io::Result<()> {
-    match question {
-        1 => print::answer(rt, check(image)),
-        2 => fit(rt, image, numbers, bars),
-        3 => run_in(rt, image, numbers, bars, inputs, room),
-        _ => Ok(()),
+// Answers a line that is whole and not empty.
+pub fn answer(rt: &impl Print, line: &mut Line<'_>, memory: &mut Memory<'_>) -> io::Result<()> {
+    let words = &mut *memory.words;
+    let inputs = &mut *memory.inputs;
+    let room = &mut *memory.room;
+    let Some(case) = heads::case(rt, line, words)? else {
+        return Ok(());
+    };
+    let image = &words[..case.words];
+    match case.question {
+        Question::Check => print::answer(rt, check(image)),
+        Question::Conform => print::answer(rt, conformity(image, line.part(1), line.part(2))),
+        Question::Run => run_in(rt, image, line, inputs, room),
     }
 }
 
@@ -58,20 +42,7 @@ pub fn conformity(image: &[u32], heap: &[u64], inputs: &[u64]) -> Answer {
 }
 
 pub fn told(image: &[u32], heap: &mut [u64], inputs: &[u64], room: &mut [u64], l: Limits) -> Told {
-    run::numbers_of(run::run(image, heap, inputs, room, l.steps, l.depth))
-}
-
-fn fit(rt: &impl Print, image: &[u32], numbers: &[u64], bars: &[usize; 16]) -> io::Result<()> {
-    let heap = cases::part(bars, 1, numbers.len());
-    let inputs = cases::part(bars, 2, numbers.len());
-    let from = heap.from;
-    let to = heap.to;
-    let first = inputs.from;
-    let end = inputs.to;
-    print::answer(
-        rt,
-        conformity(image, &numbers[from..to], &numbers[first..end]),
-    )
+    Told::from(run::run(image, heap, inputs, room, l.steps, l.depth))
 }
 
 #[derive(Clone, Copy)]
@@ -80,38 +51,30 @@ pub struct Limits {
     pub depth: u64,
 }
 
-fn limits_of(numbers: &[u64], bars: &[usize; 16]) -> Limits {
-    Limits {
-        steps: parts::single(numbers, bars, 4),
-        depth: parts::single(numbers, bars, 5),
-    }
-}
-
 fn run_in(
     rt: &impl Print,
     image: &[u32],
-    numbers: &mut [u64],
-    bars: &[usize; 16],
+    line: &mut Line<'_>,
     inputs: &mut [u64],
     room: &mut [u64],
 ) -> io::Result<()> {
-    let n = parts::copy(numbers, bars, 2, inputs);
-    let lent = parts::room(numbers, bars, room);
-    run_on(rt, image, numbers, bars, &inputs[0..n], &mut room[0..lent])
+    let n = parts::copy(line, 2, inputs);
+    let lent = parts::room(line, room.len());
+    let l = Limits {
+        steps: parts::single(line, 4),
+        depth: parts::single(line, 5),
+    };
+    let span = line.span(1);
+    let heap = &mut line.numbers[span.start..span.end];
+    let t = told(image, heap, &inputs[..n], &mut room[..lent], l);
+    ran(rt, t, heap)
 }
 
-fn run_on(
-    rt: &impl Print,
-    image: &[u32],
-    numbers: &mut [u64],
-    bars: &[usize; 16],
-    inputs: &[u64],
-    room: &mut [u64],
-) -> io::Result<()> {
-    let l = limits_of(numbers, bars);
-    let heap = cases::part(bars, 1, numbers.len());
-    let from = heap.from;
-    let to = heap.to;
-    let t = told(image, &mut numbers[from..to], inputs, room, l);
-    print::ran(rt, t.number, t.place, t.count, t.value, &numbers[from..to])
+// Writes the answer to a run, and the heap after it.
+pub fn ran(rt: &impl Print, t: Told, heap: &[u64]) -> io::Result<()> {
+    let answer = Answer {
+        number: t.number,
+        place: t.place,
+    };
+    print::ran(rt, answer, t.count, t.value, heap)
 }

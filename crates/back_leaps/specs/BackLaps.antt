@@ -1,5 +1,5 @@
 -- Laws of a leap back to a frame, one for each way on.
-use Rattle.std.specs.Prelude.{◌≡◌, List, ℕ, suc, ◌+◌, ◌*◌, ◌-◌, ◌^◌, ◌≤◌, ◌<◌, length, get_or, set}
+use Rattle.std.specs.Prelude.{◌≡◌, true, false, List, ℕ, suc, ◌+◌, ◌*◌, ◌-◌, ◌^◌, ◌≤◌, ◌<◌, length, get_or, set}
 use Rattle.std.proofs.Math.Path.{refl}
 use Rattle.std.proofs.Common.{sym, ◌∙◌, ap, arith, length-set}
 use Rattle.std.proofs.Math.Logic.{inl, inr}
@@ -11,8 +11,7 @@ use Rattle.laws.specs.Values.{IsValue}
 use Rattle.laws.specs.Trees.{operand_below}
 use Rattle.laws.specs.Tags.{address_word}
 use Rattle.objects.specs.Spots.{FieldSpot, FieldRaises}
-use Rattle.redexes.specs.declared.Choice.TheVariants.{Then, Otherwise}
-use Rattle.redexes.specs.declared.Catch.TheVariants.{Catches, Passes}
+use Rattle.std.specs.declared.option.Option.TheVariants.{Some}
 use Rattle.redexes.specs.Outcomes.{Chooses, ThrowsAt, Tries}
 use Rattle.memo.specs.Memo.{IsField, Memo}
 use Rattle.quick.specs.Known.{Tabled, Eval, IsPair, Gives}
@@ -24,7 +23,7 @@ use Rattle.room.specs.Turn.{HeapOk, Inv, Moves, Steps}
 use Rattle.room.specs.Back as back
 use Rattle.room.specs.Unwind.{pass_try, catch_steps}
 use Rattle.room.specs.LeadsLaws.{leaps_move, leaps_step}
-use Rattle.landings.specs.Lands.{Lands}
+use Rattle.landings.specs.Lands.{Lands, at_node, at_value, at_thrown}
 use Rattle.landings.specs.LandsLaws.{lands_node, lands_value, lands_thrown}
 use Rattle.landings.specs.SetLaws.{set_armed}
 use Rattle.back_leaps.specs.Backs.{Comes, Begun, Fielded, Tried}
@@ -53,47 +52,47 @@ module _ (ws : List ℕ) (D : ℕ) (hs room : List ℕ) (p i w : ℕ) where
 
   -- a leap of one step that leaves the frame, to a value
   step_value : (hs' room' : List ℕ) (u : ℕ) → Steps ws D hs room (suc i) (Word w) hs' room' i (Word u)
-      → Lands ws D i hs room (suc i) (Word w) hs' room' (record { how = 2; word = u; place = 0; level = i; steps = 1 })
+      → Lands ws D i hs room (suc i) (Word w) hs' room' (at_value u i 1)
   step_value hs' room' u s = lands_value (leaps_step ws D s) (omega arith) (omega arith)
 
   step_node : (room' : List ℕ) (l n : ℕ) → Steps ws D hs room (suc i) (Word w) hs room' l (Node n)
-      → Lands ws D i hs room (suc i) (Word w) hs room' (record { how = 1; word = n; place = 0; level = l; steps = 1 })
+      → Lands ws D i hs room (suc i) (Word w) hs room' (at_node n l 1)
   step_node room' l n s = lands_node (leaps_step ws D s) (omega arith)
 
   step_thrown : (a q : ℕ) → Steps ws D hs room (suc i) (Word w) hs room i (Thrown a q)
-      → Lands ws D i hs room (suc i) (Word w) hs room (record { how = 3; word = a; place = q; level = i; steps = 1 })
+      → Lands ws D i hs room (suc i) (Word w) hs room (at_thrown a q i 1)
   step_thrown a q s = lands_thrown (leaps_step ws D s) (omega arith)
 
   pub seq_lands : Comes ws D hs room 11 p i w
-      → Lands ws D i hs room (suc i) (Word w) hs room (record { how = 1; word = p - 1; place = 0; level = i; steps = 1 })
+      → Lands ws D i hs room (suc i) (Word w) hs room (at_node (p - 1) i 1)
   unfolding operand
   seq_lands k =
       rw k.placed (step_node room i (word ws room i 1 - 1) (back.seq_steps ws k.nodes D hs room i w k.inv k.heap k.tagged))
 
   pub loop_lands : Comes ws D hs room 29 p i w
-      → Lands ws D i hs room (suc i) (Word w) hs room (record { how = 1; word = p; place = 0; level = i; steps = 1 })
+      → Lands ws D i hs room (suc i) (Word w) hs room (at_node p i 1)
   loop_lands k =
       rw k.placed (step_node room i (word ws room i 1) (back.loop_steps ws k.nodes D hs room i w k.inv k.heap k.tagged))
 
   pub try_lands : Comes ws D hs room 15 p i w
-      → Lands ws D i hs room (suc i) (Word w) hs room (record { how = 2; word = w; place = 0; level = i; steps = 1 })
+      → Lands ws D i hs room (suc i) (Word w) hs room (at_value w i 1)
   try_lands k = step_value hs room w (back.try_steps ws k.nodes D hs room i w k.inv k.heap k.tagged)
 
   pub block_lands : Comes ws D hs room 10 p i w
       → Lands ws D i hs room (suc i) (Word w) hs (set room (word ws room i 2) (word ws room i 4))
-      (record { how = 2; word = w; place = 0; level = i; steps = 1 })
+      (at_value w i 1)
   block_lands k = step_value hs _ w (back.block_steps ws k.nodes D hs room i w k.inv k.heap k.tagged)
 
   -- the arms of an If
   module _ (k : Comes ws D hs room 12 p i w) where
-    pub then_lands : Chooses w Then
-        → Lands ws D i hs room (suc i) (Word w) hs room (record { how = 1; word = operand ws p 1; place = 0; level = i; steps = 1 })
+    pub then_lands : Chooses w (Some true)
+        → Lands ws D i hs room (suc i) (Word w) hs room (at_node (operand ws p 1) i 1)
     then_lands e =
         rw k.placed
         (step_node room i _ (back.then_steps ws k.nodes D hs room i w k.inv k.heap k.tagged (e _ _ _ _ _)))
 
-    pub else_lands : Chooses w Otherwise
-        → Lands ws D i hs room (suc i) (Word w) hs room (record { how = 1; word = p - 1; place = 0; level = i; steps = 1 })
+    pub else_lands : Chooses w (Some false)
+        → Lands ws D i hs room (suc i) (Word w) hs room (at_node (p - 1) i 1)
     unfolding operand
     else_lands e =
         rw k.placed
@@ -101,21 +100,21 @@ module _ (ws : List ℕ) (D : ℕ) (hs room : List ℕ) (p i w : ℕ) where
 
   -- and of a loop's If
   module _ (k : Comes ws D hs room 13 p i w) where
-    pub again_lands : Chooses w Then
+    pub again_lands : Chooses w (Some true)
         → Lands ws D i hs room (suc i) (Word w) hs (set room (frame_at i) 29)
-        (record { how = 1; word = p - 1; place = 0; level = suc i; steps = 1 })
+        (at_node (p - 1) (suc i) 1)
     unfolding operand
     again_lands e =
         rw k.placed
         (step_node _ (suc i) _ (back.again_steps ws k.nodes D hs room i w k.inv k.heap k.tagged (e _ _ _ _ _)))
 
-    pub over_lands : Chooses w Otherwise
-        → Lands ws D i hs room (suc i) (Word w) hs room (record { how = 2; word = 0; place = 0; level = i; steps = 1 })
+    pub over_lands : Chooses w (Some false)
+        → Lands ws D i hs room (suc i) (Word w) hs room (at_value 0 i 1)
     over_lands e = step_value hs room 0 (back.over_steps ws k.nodes D hs room i w k.inv k.heap k.tagged (e _ _ _ _ _))
 
   -- an address comes to a Throw
   pub throw_lands : Comes ws D hs room 14 p i w → (a : ℕ) → ThrowsAt w a
-      → Lands ws D i hs room (suc i) (Word w) hs room (record { how = 3; word = a; place = p; level = i; steps = 0 })
+      → Lands ws D i hs room (suc i) (Word w) hs room (at_thrown a p i 0)
   throw_lands k a s =
       rw k.placed
       (lands_thrown (leaps_move ws D k.heap (back.throw_moves ws k.nodes D hs room i w k.inv a k.tagged s.is s.small))
@@ -132,14 +131,14 @@ module _ (ws : List ℕ) (D : ℕ) (hs room : List ℕ) (p i w : ℕ) where
   -- a field is read
   module _ (k : Comes ws D hs room 7 p i w) where
     pub get_lands : (j : ℕ) → FieldSpot ws hs (node_word ws p 2) (node_word ws p 3) w j
-        → Lands ws D i hs room (suc i) (Word w) hs room (record { how = 2; word = get_or hs j 0; place = 0; level = i; steps = 1 })
+        → Lands ws D i hs room (suc i) (Word w) hs room (at_value (get_or hs j 0) i 1)
     get_lands j s =
         step_value hs room (get_or hs j 0)
         (back.redex_gives ws k.nodes D hs room i w k.inv _ _ _ (back.back_get ws k.nodes D hs room i w k.inv k.tagged) hs
         (get_or hs j 0) (rw (← k.placed) s.reads) s.holds k.heap)
 
     pub null_lands : (a : ℕ) → FieldRaises ws hs (node_word ws p 2) (node_word ws p 3) w a
-        → Lands ws D i hs room (suc i) (Word w) hs room (record { how = 3; word = a; place = p; level = i; steps = 1 })
+        → Lands ws D i hs room (suc i) (Word w) hs room (at_thrown a p i 1)
     null_lands a s =
         let e = rw k.placed at s.reads in
         rw k.placed
@@ -159,7 +158,7 @@ module _ (ws : List ℕ) (D : ℕ) (hs room : List ℕ) (p i w : ℕ) where
           taken = λ a l. s.slots w a ∙ k.heap.taken a l;
         }
 
-    pub set_lands : Lands ws D i hs room (suc i) (Word w) (set hs j w) room (record { how = 2; word = w; place = 0; level = i; steps = 1 })
+    pub set_lands : Lands ws D i hs room (suc i) (Word w) (set hs j w) room (at_value w i 1)
     set_lands =
         step_value (set hs j w) room w
         (back.redex_gives ws k.nodes D hs room i w k.inv _ _ _ (back.back_put ws k.nodes D hs room i w k.inv k.tagged)
@@ -167,7 +166,7 @@ module _ (ws : List ℕ) (D : ℕ) (hs room : List ℕ) (p i w : ℕ) where
 
   -- an Assign of a variable that is set: no block takes the value up
   pub assign_lands : Comes ws D hs room 6 p i w → (x : ℕ) → x ≡ node_word ws p 2 → (get_or room x 0 ≡ 0 → ⊥)
-      → Lands ws D i hs room (suc i) (Word w) hs (set room x (suc w)) (record { how = 2; word = w; place = 0; level = i; steps = 1 })
+      → Lands ws D i hs room (suc i) (Word w) hs (set room x (suc w)) (at_value w i 1)
   assign_lands k x e d =
       let q : x ≡ node_word ws (word ws room i 1) 2 = e ∙ ap (λ n. node_word ws n 2) k.placed in
       rw q
@@ -185,19 +184,19 @@ module _ (ws : List ℕ) (D : ℕ) (hs room : List ℕ) (p i w : ℕ) where
   first_moves t (inr e) k = rw (k.placed, e) (back.set_moves ws k.nodes D hs room i w k.inv (k.tagged ∙ e))
 
   pub first_lands : (t : ℕ) → Begun t → Comes ws D hs room t p i w
-      → Lands ws D i hs room (suc i) (Word w) hs (seconds t) (record { how = 1; word = p - 1; place = 0; level = suc i; steps = 0 })
+      → Lands ws D i hs room (suc i) (Word w) hs (seconds t) (at_node (p - 1) (suc i) 0)
   first_lands t b k = lands_node (leaps_move ws D k.heap (first_moves t b k)) (omega arith)
 
 -- The values of both operands of an Add or an Eq are known.
 module _ (ws : List ℕ) (D : ℕ) (hs room : List ℕ) (p i w : ℕ) (t u : ℕ) where
   pub second_lands : Comes ws D hs room (t + 16) p i w → (v : ℕ) → word ws room i 2 ≡ v → Gives t v w u
-      → Lands ws D i hs room (suc i) (Word w) hs room (record { how = 2; word = u; place = 0; level = i; steps = 1 })
+      → Lands ws D i hs room (suc i) (Word w) hs room (at_value u i 1)
   second_lands k v e g =
       step_value ws D hs room p i w hs room u
       (pair_steps ws k.nodes hs room D room i t v w u k.inv k.heap k.tagged e g)
 
   pub pair_lands : IsPair t → Comes ws D hs room t p i w → (v m : ℕ) → Eval ws hs room (p - 1) v m 0 → Gives t w v u → m ≤ 5
-      → Lands ws D i hs room (suc i) (Word w) hs room (record { how = 2; word = u; place = 0; level = i; steps = m + 1 })
+      → Lands ws D i hs room (suc i) (Word w) hs room (at_value u i (m + 1))
   unfolding operand
   pair_lands b k v m e g h =
       lands_value
@@ -207,37 +206,37 @@ module _ (ws : List ℕ) (D : ℕ) (hs room : List ℕ) (p i w : ℕ) (t u : ℕ
 
 -- Where a value comes back, from what back_leap is promised.
 module _ {ws : List ℕ} {lay : Layout} {D : ℕ} {hs room memo : List ℕ} {i w : ℕ}
-    (pre : Good ws lay × Inv ws D room (suc i) (Word w) × HeapOk ws hs (get_or room search_word 0) × Memo ws memo × (suc i ≤ D)) where
+    (good : Good ws lay) (pre : Inv ws D room (suc i) (Word w) × HeapOk ws hs (get_or room search_word 0) × Memo ws memo × (suc i ≤ D)) where
   pub comes : (t : ℕ) → tag ws room i ≡ t → Comes ws D hs room t (word ws room i 1) i w
   comes t e =
-      record { nodes = pre.0.nodes; inv = pre.1; heap = pre.2; tagged = e; placed = refl; below = pre.4 }
+      record { nodes = good.nodes; inv = pre.0; heap = pre.1; tagged = e; placed = refl; below = pre.3 }
 
   pub fielded : (p : ℕ) → IsField ws p → Fielded hs memo p
-  fielded p f = record { image = ws; table = pre.3; words = pre.2.words; field = f }
+  fielded p f = record { image = ws; table = pre.2; words = pre.1.words; field = f }
 
   pub inner_node : (p k : ℕ) → IsNode ws p k → 0 < operands (kind_of k) (node_word ws p 3) → 1 ≤ p
-  inner_node p k n h = inner ws lay.nodes p k (tabled pre.0) n h
+  inner_node p k n h = inner ws lay.nodes p k (tabled good) n h
 
   pub long_room : frame_at (suc i) ≤ length room
-  long_room = pre.1.fit.long
+  long_room = pre.0.fit.long
 
 -- Address a, thrown at place q, comes to frame i.
 module _ (ws : List ℕ) (D : ℕ) (hs room : List ℕ) (i a q : ℕ) where
   pub unwound : (p : ℕ) (room' : List ℕ) → Steps ws D hs room (suc i) (Thrown a q) hs room' i (Thrown a p)
-      → Lands ws D i hs room (suc i) (Thrown a q) hs room' (record { how = 3; word = a; place = p; level = i; steps = 1 })
+      → Lands ws D i hs room (suc i) (Thrown a q) hs room' (at_thrown a p i 1)
   unwound p room' s = lands_thrown (leaps_step ws D s) (omega arith)
 
   module _ (p : ℕ) (k : Tried ws D hs room p i a q) where
-    pub pass_lands : Tries ws hs (node_word ws p 2) a Passes
-        → Lands ws D i hs room (suc i) (Thrown a q) hs room (record { how = 3; word = a; place = p; level = i; steps = 1 })
+    pub pass_lands : Tries ws hs (node_word ws p 2) a (Some false)
+        → Lands ws D i hs room (suc i) (Thrown a q) hs room (at_thrown a p i 1)
     pass_lands e =
         let z = rw k.placed at e in
         rw k.placed (unwound _ room (pass_try ws k.nodes D hs room i a q k.inv k.heap k.tagged (z _ _ _ _)))
 
-    pub catch_lands : Tries ws hs (node_word ws p 2) a Catches
+    pub catch_lands : Tries ws hs (node_word ws p 2) a (Some true)
         → Lands ws D i hs room (suc i) (Thrown a q) hs
         (push_block room i p (node_word ws p 3) (4 + node_word ws p 2) (suc (4 * 2 ^ 32 + a)))
-        (record { how = 1; word = p - 1; place = 0; level = suc i; steps = 1 })
+        (at_node (p - 1) (suc i) 1)
     unfolding operand
     catch_lands e =
         let z = rw k.placed at e in

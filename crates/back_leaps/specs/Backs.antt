@@ -9,6 +9,7 @@ use Rattle.quick.specs.Known.{IsPair}
 use Rattle.room.specs.declared.Focus.TheVariants.{Value as Word, Thrown}
 use Rattle.room.specs.Room.{search_word, word, tag}
 use Rattle.room.specs.Turn.{HeapOk, Inv}
+use Rattle.std.specs.declared.option.Option.{Option}
 use Rattle.landings.specs.declared.Leap.{Leap}
 use Rattle.landings.specs.Lands.{Lands}
 
@@ -22,7 +23,7 @@ pub record Comes (ws : List ℕ) (D : ℕ) (hs room : List ℕ) (t p i w : ℕ) 
   pub below : suc i ≤ D
 
 -- A leap of such a value in every heap: the heap is left alone.
-abbrev pub LandsBack : (ws room : List ℕ) (t p i w : ℕ) (room' : List ℕ) → Leap → Type 0
+abbrev pub LandsBack : (ws room : List ℕ) (t p i w : ℕ) (room' : List ℕ) → Option Leap → Type 0
 LandsBack ws room t p i w room' r =
     (D : ℕ) (hs : List ℕ) → Comes ws D hs room t p i w → Lands ws D i hs room (suc i) (Word w) hs room' r
 

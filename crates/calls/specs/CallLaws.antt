@@ -25,7 +25,7 @@ use Rattle.laws.specs.Maps.{tabulate_same, length_tabulate}
 use Rattle.laws.specs.Values.{value_at, IsValue}
 use Rattle.classes.specs.Records.{Arguments, method_arguments}
 use Rattle.laws.specs.Postorder.{body_holds_lem, method_filled}
-use Rattle.redexes.specs.declared.Target.{Target}
+use Rattle.redexes.specs.declared.Outcome.TheVariants.{Fails}
 use Rattle.laws.specs.Tags.{word_low}
 use Rattle.redexes.specs.Outcomes.{EntersAt, RaisesAt, Calls}
 use Rattle.room.specs.declared.Focus.TheVariants.{Node, Value as Word, Thrown}
@@ -209,7 +209,7 @@ module _ (ws : List ℕ) (good : (n : ℕ) → n < node_count ws → node_holds 
         (rw (stored_kept.same search_word (omega arith)) h)
 
     -- or no rule fits.
-    pub call_fails : Calls ws hs (node_word ws (word ws room i 1) 2) (word ws room i 2) (value_at (word ws stored i 5)) Target.Fails
+    pub call_fails : Calls ws hs (node_word ws (word ws room i 1) 2) (word ws room i 2) (value_at (word ws stored i 5)) Fails
         → Halts D (finds ws hs room (suc i) (Word w)) (word ws room i 1)
     call_fails e =
         let p = word ws room i 1 in

@@ -1,7 +1,7 @@
--- How much of the lent memory a line has filled so far. Assumes nothing.
-use Rattle.std.specs.Prelude.{ℕ, ◌≤◌, List, length}
+-- The memory that a line holds. Assumes nothing.
+use Rattle.std.specs.Prelude.{◌≡◌, length}
 use Rattle.cases.specs.declared.Line.{Line}
 
--- question and name, the numbers, and the bars stand within their memory
-abbrev pub Within : Line → List ℕ → List ℕ → Type 0
-Within l head numbers = (l.head ≤ length head) × (l.numbers ≤ length numbers) × (l.bars ≤ 16)
+-- a line holds as much memory as before
+abbrev pub Keeps : Line → Line → Type 0
+Keeps old new = (length new.head.now ≡ length old.head.now) × (length new.numbers.now ≡ length old.numbers.now)

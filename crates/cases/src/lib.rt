@@ -3,265 +3,230 @@
 // here knows which questions there are, or what parts each takes.
 #![tactic(auto)]
 
-ghost use Rattle.std.specs.Prelude.{◌≡◌, ◌+◌, ◌<◌, ◌≤◌, length};
-ghost use Rattle.cases.specs.Kept.{Within};
+ghost use Rattle.std.specs.Prelude.{◌≡◌, ◌+◌, ◌<◌, ◌≤◌, length, take};
 
-use text::Fed;
+use std::ops::Range;
+use text::NotFed;
 
-// What makes a line no case. The place is the part that is read, and the number in it.
-pub const NO_BAR: u64 = 4;
-
-pub const NO_NUMBER: u64 = 5;
-
-pub const MANY_NUMBERS: u64 = 6;
-
-pub const MANY_PARTS: u64 = 7;
+// What makes a line no case, with the number that it is told by. The place is the part that is read, and the
+// number in it.
+#[derive(Clone, Copy, PartialEq, Eq)]
+pub enum Fault {
+    NoBar = 4,
+    NoNumber = 5,
+    ManyNumbers = 6,
+    ManyParts = 7,
+}
 
 // A part has at most so many numbers.
 pub const MOST_WORDS: usize = 131072;
 
-// Memory for the numbers of a line, a full image, as many words behind it, and a few numbers more; for the words of
-// an image; and for one part. The contracts spare the prover to count the zeros.
-pub fn numbers() -> [u64; 262160]
-    ensures { 262160 ≡ length result }
-{
-    [0; 262160]
-}
+// The numbers of a line: a full image, as many words behind it, and a few numbers more.
+pub const MOST_NUMBERS: usize = 262160;
 
-pub fn words() -> [u32; 131072]
-    ensures { 131072 ≡ length result }
-{
-    [0; 131072]
-}
-
-pub fn one_part() -> [u64; 131072]
-    ensures { 131072 ≡ length result }
-{
-    [0; 131072]
-}
-
-// A line so far. The line's end counts as a bar, so that part k has the numbers from bar k to bar k + 1.
-#[derive(Clone, Copy)]
-pub struct Line {
+// A line so far. The line's end counts as a bar, so that part k has the numbers from bar k to bar k + 1. The program
+// takes nothing from a heap: the memory is lent, and how much of it is filled stands beside it.
+#[derive(Drop)]
+pub struct Line<'a> {
     // the line's own number, from 1
     pub number: u64,
-    // 0 where nothing is wrong
-    pub fault: u64,
-    // so many bytes of the head
-    pub head: usize,
-    // so many numbers, and so many of them in the part that is read
-    pub numbers: usize,
-    pub words: usize,
-    pub bars: usize,
-    // in a word, and the number that its digits are
-    pub is_open: bool,
-    pub value: u64,
+    pub fault: Option<Fault>,
     // the end was read
     pub is_whole: bool,
-}
-
-// The line with a number, before its first byte.
-pub fn begun(number: u64) -> Line
-    ensures { (result.head ≡ 0) × (result.numbers ≡ 0) × (result.bars ≡ 0) }
-{
-    Line {
-        number,
-        fault: 0,
-        head: 0,
-        numbers: 0,
-        words: 0,
-        bars: 0,
-        is_open: false,
-        value: 0,
-        is_whole: false,
-    }
-}
-
-// A line, and the place behind its bytes.
-#[derive(Clone, Copy)]
-pub struct Reached {
-    pub line: Line,
-    pub at: usize,
-}
-
-// Reads on in a line from a place of the piece, to the line's end or the piece's. Behind a line that is whole the next begins.
-pub fn read(
-    start: Line,
-    piece: &[u8],
-    from: usize,
-    head: &mut [u8],
-    numbers: &mut [u64],
-    bars: &mut [usize; 16],
-) -> Reached
-    requires { Within start head.old numbers.old }
-    ensures { Within result.line head.old numbers.old }
-{
-    let mut l = next(start);
-    let mut i = from;
-    while i < piece.len() && !l.is_whole {
-        l = step(l, piece[i], head, numbers, bars);
-        i += 1;
-    }
-    Reached { line: l, at: i }
-}
-
-fn next(l: Line) -> Line
-    ensures { (result.head ≤ l.head) × (result.numbers ≤ l.numbers) × (result.bars ≤ l.bars) }
-{
-    if l.is_whole {
-        return begun(std::num::wrapping_add_u64(l.number, 1));
-    }
-    l
-}
-
-fn step(l: Line, b: u8, head: &mut [u8], numbers: &mut [u64], bars: &mut [usize; 16]) -> Line
-    requires { Within l head.old numbers.old }
-    ensures { Within result head.old numbers.old }
-{
-    let mut m = l;
-    m.is_whole = b == b'\n';
-    if m.fault != 0 {
-        return m;
-    }
-    if m.bars == 0 {
-        return in_head(m, b, head, bars);
-    }
-    in_part(m, b, numbers, bars)
+    // the head, and how many bytes it has
+    pub head: &'a mut [u8],
+    pub head_len: usize,
+    // the numbers, how many there are, and how many of them are in the part that is read
+    pub numbers: &'a mut [u64],
+    pub count: usize,
+    pub words: usize,
+    // how many numbers stand before each bar, and how many bars there are
+    pub bars: [usize; 16],
+    pub bar_count: usize,
+    // in a word of a part, the number that its digits are
+    pub value: Option<u64>,
+    ghost head_fits: { head_len ≤ length head.now },
+    ghost numbers_fit: { count ≤ length numbers.now },
+    ghost bars_fit: { bar_count ≤ 16 },
 }
 
 fn is_bar(b: u8) -> bool {
     (b == b'|') | (b == b'\n')
 }
 
-// In the head, blanks count as one, and those at its start are left out.
-fn in_head(l: Line, b: u8, head: &mut [u8], bars: &mut [usize; 16]) -> Line
-    requires { (l.head ≤ length head.old) × (l.bars ≤ 16) }
-    ensures { (result.head ≤ length head.old) × (result.numbers ≡ l.numbers) × (result.bars ≤ 16) }
-{
-    if is_bar(b) {
-        return mark(l, bars);
-    }
-    let is_blank = text::is_blank(b);
-    if is_blank && !l.is_open {
-        return l;
-    }
-    let n = l.head;
-    if n < head.len() {
-        head[n] = if is_blank { b' ' } else { b };
-        let mut m = l;
-        m.head = n + 1;
-        m.is_open = !is_blank;
-        return m;
-    }
-    failed(l, NO_BAR)
-}
+impl<'a> Line<'a> {
+    ghost use Rattle.cases.specs.Kept.{Keeps};
 
-fn failed(l: Line, fault: u64) -> Line
-    ensures { (result.head ≡ l.head) × (result.numbers ≡ l.numbers) × (result.bars ≡ l.bars) }
-{
-    let mut m = l;
-    m.fault = fault;
-    m
-}
+    // The line with a number, before its first byte.
+    pub fn new(number: u64, head: &'a mut [u8], numbers: &'a mut [u64]) -> Self
+        ensures { (result.head_len ≡ 0) × (result.count ≡ 0) × (result.bar_count ≡ 0) }
+    {
+        Line {
+            number,
+            fault: None,
+            is_whole: false,
+            head,
+            head_len: 0,
+            numbers,
+            count: 0,
+            words: 0,
+            bars: [0; 16],
+            bar_count: 0,
+            value: None,
+        }
+    }
 
-// A bar, or the line's end.
-fn mark(l: Line, bars: &mut [usize; 16]) -> Line
-    requires { l.bars ≤ 16 }
-    ensures { (result.head ≡ l.head) × (result.numbers ≡ l.numbers) × (result.bars ≤ 16) }
-{
-    let k = l.bars;
-    if k < 16 {
-        bars[k] = l.numbers;
-        let mut m = l;
-        m.bars = k + 1;
-        m.words = 0;
-        m.is_open = false;
-        return m;
+    // Reads on, to the line's end or the piece's: how many bytes of the piece these are. Behind a line that is
+    // whole the next begins.
+    pub fn read(&mut self, piece: &[u8]) -> usize
+        ensures read { result ≤ length piece.now }
+        ensures lent { Keeps self.old self.new }
+    {
+        if self.is_whole {
+            self.next();
+        }
+        for (i, b) in piece.iter().enumerate() {
+            self.step(*b);
+            if self.is_whole {
+                return i + 1;
+            }
+        }
+        piece.len()
     }
-    failed(l, MANY_PARTS)
-}
 
-fn in_part(l: Line, b: u8, numbers: &mut [u64], bars: &mut [usize; 16]) -> Line
-    requires { (l.numbers ≤ length numbers.old) × (l.bars ≤ 16) }
-    ensures { (result.head ≡ l.head) × (result.numbers ≤ length numbers.old) × (result.bars ≤ 16) }
-{
-    match text::feed(l.value, b) {
-        Fed::Number(v) => fed(l, v),
-        Fed::NoDigit => behind(l, b, numbers, bars),
-        Fed::TooLarge => failed(l, NO_NUMBER),
+    fn next(&mut self)
+        ensures { Keeps self.old self.new }
+    {
+        self.number = self.number.wrapping_add(1);
+        self.fault = None;
+        self.is_whole = false;
+        self.head_len = 0;
+        self.count = 0;
+        self.words = 0;
+        self.bar_count = 0;
+        self.value = None;
     }
-}
 
-fn fed(l: Line, v: u64) -> Line
-    ensures { (result.head ≡ l.head) × (result.numbers ≡ l.numbers) × (result.bars ≡ l.bars) }
-{
-    let mut m = l;
-    m.value = v;
-    m.is_open = true;
-    m
-}
+    // Where the line stands is its count of bars, so the choice is a test of it and no state of its own.
+    fn step(&mut self, b: u8)
+        ensures { Keeps self.old self.new }
+    {
+        self.is_whole = b == b'\n';
+        if self.fault.is_some() {
+            return;
+        }
+        let read = if self.bar_count == 0 {
+            self.in_head(b)
+        } else {
+            self.in_part(b)
+        };
+        self.fault = read.err();
+    }
 
-// The byte behind a word, or between words.
-fn behind(l: Line, b: u8, numbers: &mut [u64], bars: &mut [usize; 16]) -> Line
-    requires { (l.numbers ≤ length numbers.old) × (l.bars ≤ 16) }
-    ensures { (result.head ≡ l.head) × (result.numbers ≤ length numbers.old) × (result.bars ≤ 16) }
-{
-    if is_bar(b) {
-        return mark(put(l, numbers), bars);
+    // In the head, blanks count as one, and those at its start are left out.
+    fn in_head(&mut self, b: u8) -> Result<(), Fault>
+        ensures { Keeps self.old self.new }
+    {
+        if is_bar(b) {
+            return self.mark();
+        }
+        let n = self.head_len;
+        let is_blank = text::is_blank(b);
+        if is_blank && (n == 0 || self.head[n - 1] == b' ') {
+            return Ok(());
+        }
+        if self.head.len() <= n {
+            return Err(Fault::NoBar);
+        }
+        self.head[n] = if is_blank { b' ' } else { b };
+        self.head_len = n + 1;
+        Ok(())
     }
-    if text::is_blank(b) {
-        return put(l, numbers);
-    }
-    failed(l, NO_NUMBER)
-}
 
-// Keeps the number that a word is.
-fn put(l: Line, numbers: &mut [u64]) -> Line
-    requires { l.numbers ≤ length numbers.old }
-    ensures { (result.head ≡ l.head) × (result.numbers ≤ length numbers.old) × (result.bars ≡ l.bars) }
-{
-    if !l.is_open {
-        return l;
+    // A bar, or the line's end.
+    fn mark(&mut self) -> Result<(), Fault>
+        ensures { Keeps self.old self.new }
+    {
+        if 16 <= self.bar_count {
+            return Err(Fault::ManyParts);
+        }
+        self.bars[self.bar_count] = self.count;
+        self.bar_count += 1;
+        self.words = 0;
+        self.value = None;
+        Ok(())
     }
-    let k = l.numbers;
-    let w = l.words;
-    if MOST_WORDS <= w {
-        return failed(l, MANY_NUMBERS);
-    }
-    if k < numbers.len() {
-        numbers[k] = l.value;
-        let mut m = l;
-        m.numbers = k + 1;
-        m.words = w + 1;
-        m.is_open = false;
-        m.value = 0;
-        return m;
-    }
-    failed(l, MANY_NUMBERS)
-}
 
-// The numbers of a part, by their places.
-#[derive(Clone, Copy)]
-pub struct Span {
-    pub from: usize,
-    pub to: usize,
-}
-
-// Part k of a line with so many numbers. There is none where its bars are not in order.
-pub fn part(bars: &[usize; 16], k: usize, most: usize) -> Span
-    ensures { (result.from ≤ result.to) × (result.to ≤ most) }
-{
-    if k < 15 {
-        return between(bars[k], bars[k + 1], most);
+    fn in_part(&mut self, b: u8) -> Result<(), Fault>
+        ensures { Keeps self.old self.new }
+    {
+        match text::feed(self.value.unwrap_or(0), b) {
+            Ok(v) => {
+                self.value = Some(v);
+                Ok(())
+            }
+            Err(NotFed::NoDigit) => self.behind(b),
+            Err(NotFed::TooLarge) => Err(Fault::NoNumber),
+        }
     }
-    Span { from: 0, to: 0 }
-}
 
-fn between(from: usize, to: usize, most: usize) -> Span
-    ensures { (result.from ≤ result.to) × (result.to ≤ most) }
-{
-    if to < from || most < to {
-        return Span { from: 0, to: 0 };
+    // The byte behind a word, or between words. A part that has too many numbers ends at its bar as well.
+    fn behind(&mut self, b: u8) -> Result<(), Fault>
+        ensures { Keeps self.old self.new }
+    {
+        if is_bar(b) {
+            let put = self.put();
+            self.mark()?;
+            return put;
+        }
+        if text::is_blank(b) {
+            return self.put();
+        }
+        Err(Fault::NoNumber)
     }
-    Span { from, to }
+
+    // Keeps the number that a word is.
+    fn put(&mut self) -> Result<(), Fault>
+        ensures { Keeps self.old self.new }
+    {
+        let Some(v) = self.value else {
+            return Ok(());
+        };
+        if MOST_WORDS <= self.words || self.numbers.len() <= self.count {
+            return Err(Fault::ManyNumbers);
+        }
+        self.numbers[self.count] = v;
+        self.count += 1;
+        self.words += 1;
+        self.value = None;
+        Ok(())
+    }
+
+    pub fn head(&self) -> &[u8]
+        ensures { result.now ≡ take self.now.head_len self.now.head.now }
+    {
+        &self.head[..self.head_len]
+    }
+
+    // The places of the numbers of part k. There are none where its bars are not in order.
+    pub fn span(&self, k: usize) -> Range<usize>
+        ensures { (result.start ≤ result.end) × (result.end ≤ length self.now.numbers.now) }
+    {
+        if k < 15 {
+            let from = self.bars[k];
+            let to = self.bars[k + 1];
+            if from <= to && to <= self.numbers.len() {
+                return from..to;
+            }
+        }
+        0..0
+    }
+
+    // The numbers of part k.
+    pub fn part(&self, k: usize) -> &[u64]
+        ensures { length result.now ≤ length self.now.numbers.now }
+    {
+        let span = self.span(k);
+        &self.numbers[span.start..span.end]
+    }
 }

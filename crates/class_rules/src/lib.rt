@@ -1,118 +1,103 @@
-// The rules 10 and 11. Both ask for an accepted layout (`Good`): there a superclass has a lower number.
+// The rules 10 and 11, about an image: there a superclass has a lower number.
 #![tactic(auto)]
 
 ghost use Rattle.std.specs.Prelude.{◌≡◌, true, ◌+◌, ◌≤◌, ◌<◌};
 ghost use Rattle.std.proofs.Math.Option.{some};
 ghost use Rattle.order.specs.Rules.{first_place};
 ghost use Rattle.image.specs.Trailer.{field_count};
-ghost use Rattle.image.specs.Layout.{Good};
 ghost use Rattle.rules.specs.Program.{types_from, method_at, program};
 ghost use Rattle.rules.specs.Classes.{subtype, subtypes, overrides, override_holds};
 ghost use Rattle.rules.specs.Numbers.{fields_rule, override_rule};
 ghost use Rattle.class_rules.specs.Counts.{Counted};
 
-use classes::{Members, Seen};
-use image::{Layout, MOST_CLASSES};
-use order::Found;
+use classes::Members;
+use image::{Image, MOST_CLASSES};
 
 // How many fields a class may have, with those of the classes above it.
 const MOST_FIELDS_ABOVE: usize = 15;
 
-// How many fields each class declares.
-fn own_counts(ws: &[u32], l: Layout) -> [usize; MOST_CLASSES]
-    requires { Good ws.now l }
-    ensures { Counted ws.now (field_count ws.now) result }
+// How many fields each class declares. The memory is fixed: a count for each of the most classes that there may be.
+fn own_counts(image: &Image) -> [usize; MOST_CLASSES]
+    ensures { Counted image.now.words.now (field_count image.now.words.now) result }
 {
     let mut counts: [usize; MOST_CLASSES] = [0; MOST_CLASSES];
-    let mut i = 0;
-    while i < l.field_count {
-        let c = image::field_word(ws, l, i, 0) as usize;
+    for i in 0..image.layout.field_count {
+        let c = image.field_word(i, 0) as usize;
         counts[c] += 1;
-        i += 1;
     }
     counts
 }
 
 // 10: the first class that has too many fields. A class has its superclass's fields and its own, and the superclass comes
 // first. Class 0 is the system's: it has none.
-pub fn fields_place(ws: &[u32], l: Layout) -> Found
-    requires { Good ws.now l }
-    ensures { result ≡ first_place (fields_rule ws.now) }
+pub fn fields_place(image: &Image) -> Option<usize>
+    ensures { result ≡ first_place (fields_rule image.now.words.now) }
 {
-    let mut counts = own_counts(ws, l);
-    let mut c = 1;
-    while c < l.class_count {
-        let s = image::class_word(ws, l, c) as usize;
+    let mut counts = own_counts(image);
+    for c in 1..image.layout.class_count {
+        let s = image.class_word(c) as usize;
         let total = counts[s] + counts[c];
         if MOST_FIELDS_ABOVE < total {
-            return Found::At(c);
+            return Some(c);
         }
         counts[c] = total;
-        c += 1;
     }
-    Found::Nowhere
+    None
 }
 
-// Whether each of n types from type word a on is a subtype of the one as far from type word b.
-fn params_below(ws: &[u32], l: Layout, a: usize, b: usize, n: usize) -> bool
-    requires { Good ws.now l × (a + n ≤ l.type_count) × (b + n ≤ l.type_count) }
-    ensures { result ≡ subtypes (program ws.now) (types_from ws.now a n) (types_from ws.now b n) }
+// Whether each of n types from type word a on is a subtype of the one as far from type word b. `node_rules::args_below` has the first types
+// in an array: a loop of both would take a closure for them, to save three lines.
+#[tactic(auto, using(classes::specs::Subtypes::subtypes_all, classes::specs::Records::type_open), unfolding(rules::specs::Program::types_from, words::specs::Types::is_type))]
+fn params_below(image: &Image, a: usize, b: usize, n: usize) -> bool
+    requires { (a + n ≤ image.now.layout.type_count) × (b + n ≤ image.now.layout.type_count) }
+    ensures { result ≡ subtypes (program image.now.words.now) (types_from image.now.words.now a n) (types_from image.now.words.now b n) }
 {
-    let mut k = 0;
-    while k < n {
-        let t = image::type_word(ws, l, a + k);
-        let u = image::type_word(ws, l, b + k);
-        if !classes::is_subtype(ws, l, t, u) {
+    for k in 0..n {
+        let t = words::type_of(image.type_word(a + k));
+        let u = words::type_of(image.type_word(b + k));
+        if !classes::is_subtype(image, t, u) {
             return false;
         }
-        k += 1;
     }
     true
 }
 
 // Whether method i may override method o: it takes all that o takes, and returns no more than o returns.
-fn overrides(ws: &[u32], l: Layout, i: usize, o: usize) -> bool
-    requires { Good ws.now l × (i < l.method_count) × (o < l.method_count) }
-    ensures { result ≡ overrides (program ws.now) (method_at ws.now i) (some (method_at ws.now o)) }
+#[tactic(auto, using(crate::specs::Overrides::overrides_not))]
+fn overrides(image: &Image, i: usize, o: usize) -> bool
+    requires { (i < image.now.layout.method_count) × (o < image.now.layout.method_count) }
+    ensures { result ≡ overrides (program image.now.words.now) (method_at image.now.words.now i) (some (method_at image.now.words.now o)) }
 {
-    let n = image::method_word(ws, l, i, 4);
-    let overridden = image::method_word(ws, l, o, 4);
+    let n = image.method_word(i, 4);
+    let overridden = image.method_word(o, 4);
     if overridden != n {
         return false;
     }
-    let a = image::method_word(ws, l, o, 3) as usize;
-    let b = image::method_word(ws, l, i, 3) as usize;
-    let t = image::method_word(ws, l, i, 2);
-    let u = image::method_word(ws, l, o, 2);
-    params_below(ws, l, a, b, n as usize) & classes::is_subtype(ws, l, t, u)
+    let a = image.method_word(o, 3) as usize;
+    let b = image.method_word(i, 3) as usize;
+    let t = words::type_of(image.method_word(i, 2));
+    let u = words::type_of(image.method_word(o, 2));
+    params_below(image, a, b, n as usize) & classes::is_subtype(image, t, u)
 }
 
 // Whether method i overrides well what the class above its own sees of its name, if it sees anything.
-fn override_holds(ws: &[u32], l: Layout, i: usize) -> bool
-    requires { Good ws.now l × (i < l.method_count) }
-    ensures { result ≡ override_holds (program ws.now) (method_at ws.now i) }
+fn override_holds(image: &Image, i: usize) -> bool
+    requires { i < image.now.layout.method_count }
+    ensures { result ≡ override_holds (program image.now.words.now) (method_at image.now.words.now i) }
 {
-    let owner = image::method_word(ws, l, i, 0) as usize;
-    let name = image::method_word(ws, l, i, 1) as usize;
-    let above = image::class_word(ws, l, owner) as usize;
-    let r = classes::look_up(ws, l, Members::Methods, above, name);
-    match r {
-        Seen::At(_, o) => overrides(ws, l, i, o),
-        Seen::Nothing => true,
+    let owner = image.method_word(i, 0) as usize;
+    let name = image.method_word(i, 1) as usize;
+    let above = image.class_word(owner) as usize;
+    match classes::look_up(image, Members::Methods, above, name) {
+        Some(seen) => overrides(image, i, seen.record),
+        None => true,
     }
 }
 
 // 11: the first method that overrides badly.
-pub fn override_place(ws: &[u32], l: Layout) -> Found
-    requires { Good ws.now l }
-    ensures { result ≡ first_place (override_rule ws.now) }
+#[tactic(auto, unfolding(order::specs::Rules::first_place, rules::specs::Numbers::override_rule))]
+pub fn override_place(image: &Image) -> Option<usize>
+    ensures { result ≡ first_place (override_rule image.now.words.now) }
 {
-    let mut i = 0;
-    while i < l.method_count {
-        if !override_holds(ws, l, i) {
-            return Found::At(i);
-        }
-        i += 1;
-    }
-    Found::Nowhere
+    order::first_broken(image.layout.method_count, |i| override_holds(image, i))
 }

@@ -3,5 +3,7 @@ pub mod Sees
 pub mod Keys
 pub mod Records
 pub mod Types
+pub mod Subtypes
 pub mod Search
+pub mod Chunks
 pub mod Tables

@@ -3,6 +3,8 @@
 use Rattle.std.specs.Prelude.{◌≡◌, refl, Bool, true, false, cond, ◌&&◌, ◌||◌, List, [], ◌∷◌, ltb, eqb}
 use Rattle.std.proofs.Common.{sym, ◌∙◌, ap, arith, ltb-true, eqb-true, eq-eqb}
 use Rattle.std.proofs.Math.Option.{none, some}
+use Rattle.std.specs.declared.option.Option.{Option}
+use Rattle.std.specs.declared.option.Option.TheVariants.{Some, None}
 use Prim.Native.Nat.{ℕ, zero, suc, ◌+◌, ◌*◌, ◌≤◌, ◌<◌}
 use Rattle.image.specs.Numbers.{highest_name}
 use Rattle.image.specs.Trailer.{class_count, field_count, method_count}
@@ -16,10 +18,9 @@ use Rattle.rules.specs.Classes.{declared_in, sees_field, method_in, sees_method}
 use Rattle.laws.specs.Classes.{sees_field_zero, sees_field_suc, sees_method_zero, sees_method_suc}
 use Rattle.classes.specs.declared.Members.{Members}
 use Rattle.classes.specs.declared.Members.TheVariants.{Fields, Methods}
-use Rattle.classes.specs.declared.Seen.{Seen}
-use Rattle.classes.specs.declared.Seen.TheVariants.{At, Nothing}
+use Rattle.classes.specs.declared.Member.{Member}
 use Rattle.classes.specs.Sees.{Sees}
-use Rattle.classes.specs.Keys.{names, count_of, size_of, key_of}
+use Rattle.classes.specs.Keys.{names, count_of, size_of, key_of, Finds}
 use Rattle.classes.specs.Records.{field_open, method_open, field_rises_lem, method_rises_lem}
 use Rattle.classes.specs.Types.{low, super_is}
 use Rattle.classes.specs.Search.{Rising, rising, first_of, first_at, first_none}
@@ -79,7 +80,7 @@ method_first P (r ∷ l) c f = ap (cond (eqb r.owner c && eqb r.name f) (some r)
 
 -- no record has the key of a class and a name
 abbrev pub Absent : List ℕ → Members → (c name : ℕ) → Type 0
-Absent ws m c name = (i : ℕ) → i < count_of ws m → key_of ws m i ≡ c * names + name → ⊥
+Absent ws m c name = Finds (key_of ws m) (count_of ws m) (c * names + name) None
 
 -- what two classes see is the same
 abbrev pub Same : List ℕ → Members → (d c name : ℕ) → Type 0
@@ -94,25 +95,15 @@ pub same_trans : (ws : List ℕ) (m : Members) (b d c name : ℕ) → Same ws m 
 same_trans ws Fields b d c name p q = p ∙ q
 same_trans ws Methods b d c name p q = p ∙ q
 
-pub carry : (ws : List ℕ) (m : Members) (d c name : ℕ) (r : Seen) → Same ws m d c name → Sees ws m d name r → Sees ws m c name r
-carry ws Fields d c name (At b i) e s =
+pub carry : (ws : List ℕ) (m : Members) (d c name : ℕ) (r : Option Member) → Same ws m d c name → Sees ws m d name r → Sees ws m c name r
+carry ws Fields d c name (Some r) e s =
     record { sees = sym e ∙ s.sees; within = s.within; owner = s.owner; class = s.class }
-carry ws Fields d c name Nothing e s = sym e ∙ s
-carry ws Methods d c name (At b i) e s =
+carry ws Fields d c name None e s = sym e ∙ s
+carry ws Methods d c name (Some r) e s =
     record { sees = sym e ∙ s.sees; within = s.within; owner = s.owner; class = s.class }
-carry ws Methods d c name Nothing e s = sym e ∙ s
+carry ws Methods d c name None e s = sym e ∙ s
 
 module _ (ws : List ℕ) (l : Layout) (g : Good ws l) where
-  pub size_of_lem : (m : Members) → size_of l m ≡ count_of ws m
-  unfolding size_of count_of
-  size_of_lem Fields = g.lay.field_count_lem
-  size_of_lem Methods = g.lay.method_count_lem
-
-  pub size_small : (m : Members) → size_of l m ≤ 1024
-  unfolding size_of
-  size_small Fields = g.small.fields
-  size_small Methods = g.small.methods
-
   fields_rise : Rising (λ i. field_word ws i 0 * names + field_word ws i 1) (field_count ws)
   fields_rise i h =
       rises_key (field_word ws i 0) (field_word ws i 1) (field_word ws (suc i) 0) (field_word ws (suc i) 1)
@@ -129,11 +120,6 @@ module _ (ws : List ℕ) (l : Layout) (g : Good ws l) where
   unfolding key_of size_of
   keys_rise Fields n e = rw (e, g.lay.field_count_lem) fields_rise
   keys_rise Methods n e = rw (e, g.lay.method_count_lem) methods_rise
-
-  -- the code has the count and the key by other names
-  pub absent : (m : Members) (c name n t : ℕ) → n ≡ size_of l m → t ≡ c * names + name
-      → ((i : ℕ) → i < n → key_of ws m i ≡ t → ⊥) → Absent ws m c name
-  absent m c name n t p q h i k e = let s = size_of_lem m in h i (omega arith) (e ∙ sym q)
 
   -- the field and the method that a class declares, by key
   field_own : (c name i : ℕ) → name ≤ highest_name → i < field_count ws
@@ -181,7 +167,7 @@ module _ (ws : List ℕ) (l : Layout) (g : Good ws l) where
 
   -- The three ways to leave a class: its own record,
   pub here : (m : Members) (c name i : ℕ) → c < class_count ws → name ≤ highest_name → i < count_of ws m
-      → key_of ws m i ≡ c * names + name → Sees ws m c name (At c i)
+      → key_of ws m i ≡ c * names + name → Sees ws m c name (Some (record { owner = c; «record» = i }))
   unfolding key_of count_of
   here Fields c name i h k w e =
       let s = (field_open ws i (g.fields i w)).name in
@@ -191,7 +177,7 @@ module _ (ws : List ℕ) (l : Layout) (g : Good ws l) where
       record { sees = sees_method_lem c name (method_at ws i) (method_own c name i k w e); within = w; owner = omega arith; class = h }
 
   -- no record of its own in the highest class,
-  pub nowhere : (m : Members) (c name : ℕ) → c ≡ 0 → Absent ws m c name → Sees ws m c name Nothing
+  pub nowhere : (m : Members) (c name : ℕ) → c ≡ 0 → Absent ws m c name → Sees ws m c name None
   unfolding key_of count_of
   nowhere Fields zero name z h = rw (sees_field_zero (program ws) name, field_not 0 name h)
   nowhere Methods zero name z h = rw (sees_method_zero (program ws) name, method_not 0 name h)

@@ -1,19 +1,16 @@
--- Laws: subclass by one step upwards, and subtype by type words.
-use Rattle.std.specs.Prelude.{◌≡◌, Bool, true, List, leb, eqb}
+-- Laws: subclass by one step upwards, and when two classes are one type.
+use Rattle.std.specs.Prelude.{◌≡◌, Bool, true, List, eqb}
 use Rattle.std.proofs.Math.Path.{refl, ap}
-use Rattle.std.proofs.Common.{sym, ◌∙◌, arith, ltb-true, eqb-true, ne_eqb}
+use Rattle.std.proofs.Common.{sym, ◌∙◌, arith, eq-eqb, eqb-true, ne_eqb}
 use Rattle.std.proofs.Math.Bool.{false}
-use Prim.Native.Nat.{ℕ, zero, suc, ◌+◌, ◌-◌, ◌≤◌, ◌<◌}
+use Prim.Native.Nat.{ℕ, zero, suc, ◌+◌, ◌≤◌, ◌<◌}
 use Rattle.std.proofs.lemmas.Bool.{eqb-false}
-use Rattle.words.specs.declared.Ty.TheVariants.{Class}
-use Rattle.words.specs.Types.{type_of, is_type}
-use Rattle.words.specs.TypeLaws.{type_class, type_word_of, is_type_lem}
 use Rattle.image.specs.Trailer.{class_count}
 use Rattle.image.specs.Records.{superclass}
 use Rattle.image.specs.Layout.{Good}
 use Rattle.image.specs.declared.Layout.{Layout}
-use Rattle.rules.specs.Program.{Program, program}
-use Rattle.rules.specs.Classes.{super, subclass, subtype}
+use Rattle.rules.specs.Program.{program}
+use Rattle.rules.specs.Classes.{super, subclass}
 use Rattle.laws.specs.Maps.{get_d_tabulate}
 use Rattle.laws.specs.Classes.{Lower, lower, subclass_refl, subclass_suc, subclass_le}
 
@@ -45,35 +42,10 @@ module _ (ws : List ℕ) (l : Layout) (g : Good ws l) where
       go false e true q = absurd (eqb-false c d e (let k = subclass_le (program ws) low c d q in omega arith))
       go false e false q = refl
 
-module _ (P : Program) where
-  -- a plain type is a subtype of itself only
-  pub subtype_plain : (t u : ℕ) → t < 3 → eqb t u ≡ subtype P (type_of t) (type_of u)
-  unfolding subtype type_of
-  subtype_plain zero u h = ap (eqb 0) (sym (type_word_of u))
-  subtype_plain (suc zero) u h = ap (eqb 1) (sym (type_word_of u))
-  subtype_plain (suc (suc zero)) u h = ap (eqb 2) (sym (type_word_of u))
-  subtype_plain (suc (suc (suc t))) u h = absurd (omega arith)
-
-  pub subtype_null : (t u : ℕ) → t ≡ 3 → leb 3 u ≡ subtype P (type_of t) (type_of u)
-  unfolding subtype type_of
-  subtype_null t u h = rw h (ap (leb 3) (sym (type_word_of u)))
-
-  -- no class is a subtype of a type that is no class
-  pub subtype_other : (t u : ℕ) → 3 ≤ t → (t ≡ 3 → ⊥) → u < 4 → false ≡ subtype P (type_of t) (type_of u)
-  unfolding subtype type_of
-  subtype_other t u h n k = rw (type_class t (omega arith)) (go u k)
-    where
-      go : (u : ℕ) → u < 4 → false ≡ subtype P (Class (t - 4)) (type_of u)
-      go zero k = refl
-      go (suc zero) k = refl
-      go (suc (suc zero)) k = refl
-      go (suc (suc (suc zero))) k = refl
-      go (suc (suc (suc (suc u)))) k = absurd (omega arith)
-
-  pub subtype_class : (t u : ℕ) → 4 ≤ t → 4 ≤ u → subclass P (t - 4) (u - 4) ≡ subtype P (type_of t) (type_of u)
-  unfolding subtype
-  subtype_class t u h k = rw (type_class t h, type_class u k)
-
--- a type's class is one of the image
-pub class_within : (t classes : ℕ) → is_type t classes ≡ true → t < 4 + classes
-class_within t classes h = ltb-true t (4 + classes) (sym (is_type_lem t classes) ∙ h)
+-- two classes have one word when they are one
+pub same_class : (c d : ℕ) → eqb (4 + c) (4 + d) ≡ eqb c d
+same_class c d = go (eqb c d) refl
+  where
+    go : (b : Bool) → eqb c d ≡ b → eqb (4 + c) (4 + d) ≡ b
+    go true e = eq-eqb (4 + c) (4 + d) (ap (4 +◌) (eqb-true c d e))
+    go false e = ne_eqb (4 + c) (4 + d) (λ q. eqb-false c d e (omega arith))

@@ -1,20 +1,19 @@
 // Subclass, subtype, and the member of a name that a class sees.
-// All of it asks for an accepted layout (`Good`): there a superclass has a lower number, so every walk upwards ends, and the
+// All of it is about an image, whose layout is accepted: there a superclass has a lower number, so every walk upwards ends, and the
 // tables of members are sorted, so that a member is looked up by halves.
 #![tactic(auto)]
 
 ghost use Rattle.std.specs.Prelude.{◌≡◌, true, ◌+◌, ◌*◌, ◌^◌, ◌≤◌, ◌<◌};
 ghost use Rattle.image.specs.Numbers.{highest_name};
 ghost use Rattle.image.specs.Trailer.{class_count};
-ghost use Rattle.image.specs.Layout.{Lay, Good};
-ghost use Rattle.words.specs.Types.{type_of, is_type};
+ghost use Rattle.words.specs.Types.{known};
 ghost use Rattle.rules.specs.Program.{program};
-ghost use Rattle.rules.specs.Classes.{subclass, subtype};
+ghost use Rattle.rules.specs.Classes.{subclass, subtype, same_type};
 ghost use Rattle.classes.specs.Sees.{Sees};
-ghost use Rattle.classes.specs.Keys.{names, count_of, size_of, key_of};
+ghost use Rattle.classes.specs.Keys.{names, count_of, key_of, Finds};
 
-use image::Layout;
-use words::{FIRST_CLASS, NULL_TYPE};
+use image::Image;
+use words::Ty;
 
 // How many names there are. A key is a class's number times this, plus the name.
 const NAMES: usize = 65536;
@@ -26,51 +25,43 @@ pub enum Members {
     Methods,
 }
 
-// A member that a class sees: the class that declares it, and its record. Or that there is none.
+// A member that a class sees: the class that declares it, and its record.
 #[derive(Clone, Copy)]
-pub enum Seen {
-    At(usize, usize),
-    Nothing,
+pub struct Member {
+    pub owner: usize,
+    pub record: usize,
 }
 
 // Whether class c is class d or below it. Superclasses have lower numbers, so the walk need not pass d.
-pub fn is_subclass(ws: &[u32], l: Layout, c: usize, d: usize) -> bool
-    requires { Good ws.now l × (c < l.class_count) }
-    ensures { result ≡ subclass (program ws.now) c d }
+pub fn is_subclass(image: &Image, c: usize, d: usize) -> bool
+    requires { c < image.now.layout.class_count }
+    ensures { result ≡ subclass (program image.now.words.now) c d }
 {
     let mut at = c;
     while d < at {
-        at = image::class_word(ws, l, at) as usize;
+        at = image.class_word(at) as usize;
     }
     at == d
 }
 
-// Whether type t is a subtype of type u: the type itself, the null type below every class, a subclass.
-pub fn is_subtype(ws: &[u32], l: Layout, t: u32, u: u32) -> bool
-    requires { Good ws.now l × (is_type t (class_count ws.now) ≡ true) }
-    ensures { result ≡ subtype (program ws.now) (type_of t) (type_of u) }
+// Whether two types are the same.
+#[tactic(auto, using(crate::specs::Types::same_class), unfolding(words::specs::Types::type_word))]
+pub fn same_type(t: Ty, u: Ty) -> bool
+    ensures { result ≡ same_type t u }
 {
-    if t < NULL_TYPE {
-        return t == u;
-    }
-    if t == NULL_TYPE {
-        return NULL_TYPE <= u;
-    }
-    if u < FIRST_CLASS {
-        return false;
-    }
-    let c = (t - FIRST_CLASS) as usize;
-    let d = (u - FIRST_CLASS) as usize;
-    is_subclass(ws, l, c, d)
+    t == u
 }
 
-// How many records a table has.
-fn member_count(l: Layout, m: Members) -> usize
-    ensures { result ≡ size_of l m }
+// Whether type t is a subtype of type u: the type itself, the null type below every class, a subclass.
+#[tactic(auto, unfolding(rules::specs::Classes::subtype, words::specs::Types::type_word))]
+pub fn is_subtype(image: &Image, t: Ty, u: Ty) -> bool
+    requires { known t (class_count image.now.words.now) ≡ true }
+    ensures { result ≡ subtype (program image.now.words.now) t u }
 {
-    match m {
-        Members::Fields => l.field_count,
-        Members::Methods => l.method_count,
+    match (t, u) {
+        (Ty::NT, Ty::Class(_)) => true,
+        (Ty::Class(c), Ty::Class(d)) => is_subclass(image, c as usize, d as usize),
+        _ => same_type(t, u),
     }
 }
 
@@ -82,51 +73,45 @@ fn key(c: usize, name: usize) -> usize
     c * NAMES + name
 }
 
-// The key of record i.
-fn member_key(ws: &[u32], l: Layout, m: Members, i: usize) -> usize
-    requires { Lay ws.now l × (i < count_of ws.now m) }
-    ensures { result ≡ key_of ws.now m i }
+// The record of a name that class c itself declares. A field's record is 3 words, and a method's 6: the two arms are plainer than a
+// function that is handed both the widths and the key.
+fn own(image: &Image, m: Members, c: usize, name: usize) -> Option<usize>
+    requires { (c < image.now.layout.class_count) × (name ≤ highest_name) }
+    ensures { Finds (key_of image.now.words.now m) (count_of image.now.words.now m) (c * names + name) result }
 {
+    let wanted = key(c, name);
+    let l = image.layout;
     match m {
         Members::Fields => {
-            let c = image::field_word(ws, l, i, 0) as usize;
-            let name = image::field_word(ws, l, i, 1) as usize;
-            key(c, name)
+            let (fields, _) = image.words[l.fields..l.methods].as_chunks::<3>();
+            let found = fields.binary_search_by_key(&wanted, |f| key(f[0] as usize, f[1] as usize));
+            found.ok()
         },
         Members::Methods => {
-            let c = image::method_word(ws, l, i, 0) as usize;
-            let name = image::method_word(ws, l, i, 1) as usize;
-            key(c, name)
+            let (methods, _) = image.words[l.methods..l.types].as_chunks::<6>();
+            let found = methods.binary_search_by_key(
+                &wanted,
+                |m| key(m[0] as usize, m[1] as usize),
+            );
+            found.ok()
         },
     }
 }
 
-// The member of a name that class c sees: the first one on the way up. In each class it is looked up by halves.
-pub fn look_up(ws: &[u32], l: Layout, m: Members, c: usize, name: usize) -> Seen
-    requires { Good ws.now l × (c < l.class_count) × (name ≤ highest_name) }
-    ensures { Sees ws.now m c name result }
+// The member of a name that class c sees: the first one on the way up. A name is a word of the image below 2^16: as a u16 it would be cast
+// when it is read, and back for its key.
+pub fn look_up(image: &Image, m: Members, c: usize, name: usize) -> Option<Member>
+    requires { (c < image.now.layout.class_count) × (name ≤ highest_name) }
+    ensures { Sees image.now.words.now m c name result }
 {
-    let n = member_count(l, m);
     let mut at = c;
     'up: loop {
-        let wanted = key(at, name);
-        let mut lo = 0;
-        let mut hi = n;
-        while lo < hi {
-            let mid = (lo + hi) / 2;
-            let k = member_key(ws, l, m, mid);
-            if k == wanted {
-                break 'up Seen::At(at, mid);
-            }
-            if k < wanted {
-                lo = mid + 1;
-            } else {
-                hi = mid;
-            }
+        if let Some(record) = own(image, m, at, name) {
+            break 'up Some(Member { owner: at, record });
         }
         if at == 0 {
-            break Seen::Nothing;
+            break 'up None;
         }
-        at = image::class_word(ws, l, at) as usize;
+        at = image.class_word(at) as usize;
     }
 }

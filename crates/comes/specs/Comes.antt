@@ -35,7 +35,7 @@ Changes ws room t p i w room' r =
     (D : ℕ) (hs : List ℕ) (may : Bool) → Coming ws D hs room t p i w → Turned ws D may hs room (suc i) (Value w) hs room' r
 
 -- the turn that a redex's outcome makes at place p
-unfoldable pub finish_of : Outcome → (p i : ℕ) → Go
+unfoldable pub finish_of : Outcome ℕ → (p i : ℕ) → Go
 finish_of (Gives u) p i = Stepped (Value u) i
 finish_of (Raises a) p i = Stepped (Thrown a p) i
 finish_of Fails p i = Stuck p

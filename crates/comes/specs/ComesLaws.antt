@@ -16,10 +16,7 @@ use Rattle.laws.specs.Values.{value_at, IsValue}
 use Rattle.laws.specs.Frames.{Frame, assign_f, outer}
 use Rattle.redexes.specs.declared.Outcome.{Outcome}
 use Rattle.redexes.specs.declared.Outcome.TheVariants.{Gives, Raises, Fails}
-use Rattle.redexes.specs.declared.Choice.{Choice}
-use Rattle.redexes.specs.declared.Choice.TheVariants.{Then, Otherwise}
-use Rattle.redexes.specs.declared.Thrown.{Thrown}
-use Rattle.redexes.specs.declared.Thrown.TheVariants.{Null}
+use Rattle.std.specs.declared.option.Option.TheVariants.{Some, None}
 use Rattle.redexes.specs.Outcomes.{redex_of, Sound, Chooses, ThrowsAt, Throws}
 use Rattle.objects.specs.Spots.{FieldSpot, FieldRaises, FieldFails}
 use Rattle.room.specs.declared.Focus.TheVariants.{Node, Value as Word, Thrown as At}
@@ -39,7 +36,7 @@ module _ (ws : List ℕ) (D : ℕ) (hs room : List ℕ) (p i w : ℕ) (may : Boo
   -- a redex by its outcome
   module _ (t : ℕ) (k : Coming ws D hs room t p i w) (F : Frame) (r' : Redex)
       (b : Back ws k.nodes D hs room i w k.inv F (redex (word ws room i 1) (heap_of (program ws) hs) (store_of room) r')) where
-    pub finished : (r : Outcome) → redex_of (heap_of (program ws) hs) r ≡ r' → Sound r
+    pub finished : (r : Outcome ℕ) → redex_of (heap_of (program ws) hs) r ≡ r' → Sound r
         → Turned ws D may hs room (suc i) (Word w) hs room (finish_of r p i)
     unfolding redex_of finish_of
     finished (Gives u) e s = (back.redex_gives ws k.nodes D hs room i w k.inv F _ r' b hs u (sym e) s k.heap, λ f. refl)
@@ -47,13 +44,13 @@ module _ (ws : List ℕ) (D : ℕ) (hs room : List ℕ) (p i w : ℕ) (may : Boo
         rw (← k.placed) (back.redex_raises ws k.nodes D hs room i w k.inv F _ r' b a (sym e) s k.heap, λ f. refl)
     finished Fails e s = rw (← k.placed) (back.redex_fails ws k.nodes D hs room i w k.inv F _ r' b (sym e), refl)
 
-  pub cast_turned : Coming ws D hs room 1 p i w → (r : Outcome)
+  pub cast_turned : Coming ws D hs room 1 p i w → (r : Outcome ℕ)
       → redex_of (heap_of (program ws) hs) r ≡ cast_redex (program ws) (heap_of (program ws) hs) (node_word ws p 2) (value_at w) → Sound r
       → Turned ws D may hs room (suc i) (Word w) hs room (finish_of r p i)
   cast_turned k r e s =
       finished 1 k _ _ (back.back_cast ws k.nodes D hs room i w k.inv k.tagged) r (rw k.placed e) s
 
-  pub add_turned : Coming ws D hs room 20 p i w → (v : ℕ) → word ws room i 2 ≡ v → (r : Outcome)
+  pub add_turned : Coming ws D hs room 20 p i w → (v : ℕ) → word ws room i 2 ≡ v → (r : Outcome ℕ)
       → redex_of (heap_of (program ws) hs) r ≡ add_redex (heap_of (program ws) hs) (value_at v) (value_at w) → Sound r
       → Turned ws D may hs room (suc i) (Word w) hs room (finish_of r p i)
   add_turned k v q r e s =
@@ -169,14 +166,14 @@ module _ (ws : List ℕ) (D : ℕ) (hs room : List ℕ) (p i w : ℕ) (may : Boo
 
   -- the arms of an If
   module _ (k : Coming ws D hs room 12 p i w) where
-    pub if_then : Chooses w Then → Turned ws D may hs room (suc i) (Word w) hs room (Stepped (Node (operand ws p 1)) i)
+    pub if_then : Chooses w (Some true) → Turned ws D may hs room (suc i) (Word w) hs room (Stepped (Node (operand ws p 1)) i)
     if_then e = rw (← k.placed) (back.then_steps ws k.nodes D hs room i w k.inv k.heap k.tagged (e _ _ _ _ _), λ f. refl)
 
-    pub if_else : Chooses w Otherwise → Turned ws D may hs room (suc i) (Word w) hs room (Stepped (Node (p - 1)) i)
+    pub if_else : Chooses w (Some false) → Turned ws D may hs room (suc i) (Word w) hs room (Stepped (Node (p - 1)) i)
     unfolding operand
     if_else e = rw (← k.placed) (back.else_steps ws k.nodes D hs room i w k.inv k.heap k.tagged (e _ _ _ _ _), λ f. refl)
 
-    pub if_stuck : Chooses w Choice.Fails → Turned ws D may hs room (suc i) (Word w) hs room (Stuck p)
+    pub if_stuck : Chooses w None → Turned ws D may hs room (suc i) (Word w) hs room (Stuck p)
     if_stuck e =
         rw (← k.placed) (
           back.back_halts ws k.nodes D hs room i w k.inv (back.back_if ws k.nodes D hs room i w k.inv k.tagged)
@@ -186,15 +183,15 @@ module _ (ws : List ℕ) (D : ℕ) (hs room : List ℕ) (p i w : ℕ) (may : Boo
 
   -- the arms of a loop's If
   module _ (k : Coming ws D hs room 13 p i w) where
-    pub test_again : Chooses w Then
+    pub test_again : Chooses w (Some true)
         → Turned ws D may hs room (suc i) (Word w) hs (set room (frame_at i) 29) (Stepped (Node (p - 1)) (suc i))
     unfolding operand
     test_again e = rw (← k.placed) (back.again_steps ws k.nodes D hs room i w k.inv k.heap k.tagged (e _ _ _ _ _), λ f. refl)
 
-    pub test_over : Chooses w Otherwise → Turned ws D may hs room (suc i) (Word w) hs room (Stepped (Word 0) i)
+    pub test_over : Chooses w (Some false) → Turned ws D may hs room (suc i) (Word w) hs room (Stepped (Word 0) i)
     test_over e = (back.over_steps ws k.nodes D hs room i w k.inv k.heap k.tagged (e _ _ _ _ _), λ f. refl)
 
-    pub test_stuck : Chooses w Choice.Fails → Turned ws D may hs room (suc i) (Word w) hs room (Stuck p)
+    pub test_stuck : Chooses w None → Turned ws D may hs room (suc i) (Word w) hs room (Stuck p)
     test_stuck e =
         rw (← k.placed) (
           back.back_halts ws k.nodes D hs room i w k.inv (back.back_test ws k.nodes D hs room i w k.inv k.tagged)
@@ -208,16 +205,16 @@ module _ (ws : List ℕ) (D : ℕ) (hs room : List ℕ) (p i w : ℕ) (may : Boo
     throw_turned a s =
         rw (← k.placed) (back.throw_moves ws k.nodes D hs room i w k.inv a k.tagged s.is s.small, refl)
 
-    pub throw_null : Throws w Null → Turned ws D may hs room (suc i) (Word w) hs room (Stepped (At 0 p) i)
+    pub throw_null : (a : ℕ) → Throws w (Raises a) → Turned ws D may hs room (suc i) (Word w) hs room (Stepped (At a p) i)
     unfolding redex focus_of
-    throw_null e =
+    throw_null a e =
         rw (← k.placed) (
           back.steps_less ws k.nodes D hs room i w k.inv (back.back_throw ws k.nodes D hs room i w k.inv k.tagged)
-              (word ws room i 1) hs (At 0 (word ws room i 1)) (e _ _ _) (omega arith) k.heap,
+              (word ws room i 1) hs (At a (word ws room i 1)) (e.1 _ _ _) (rw e.0 (omega arith)) k.heap,
           λ f. refl,
         )
 
-    pub throw_stuck : Throws w Thrown.Fails → Turned ws D may hs room (suc i) (Word w) hs room (Stuck p)
+    pub throw_stuck : Throws w Fails → Turned ws D may hs room (suc i) (Word w) hs room (Stuck p)
     throw_stuck e =
         rw (← k.placed) (
           back.back_halts ws k.nodes D hs room i w k.inv (back.back_throw ws k.nodes D hs room i w k.inv k.tagged)

@@ -5,7 +5,6 @@ ghost use Rattle.std.specs.Prelude.{◌≡◌, List, ℕ, suc, ◌+◌, ◌≤�
 ghost use Rattle.image.specs.Numbers.{variables};
 ghost use Rattle.image.specs.Nodes.{node_word};
 ghost use Rattle.image.specs.Trailer.{class_count};
-ghost use Rattle.image.specs.Layout.{Good};
 ghost use Rattle.rules.specs.Program.{program};
 ghost use Rattle.laws.specs.Heap.{Words};
 ghost use Rattle.laws.specs.Values.{IsValue};
@@ -15,13 +14,14 @@ ghost use Rattle.room.specs.Room.{frame_at, word, Fit};
 ghost use Rattle.room.specs.Turn.{Turned};
 ghost use Rattle.comes.specs.Comes.{Coming, Stays, Pairs, Changes, First, finish_of};
 
-use image::Layout;
-use objects::Spot;
-use redexes::{Choice, Outcome, Thrown};
+use image::Image;
+use redexes::Outcome;
 use room::{FRAME_WORDS, FRAMES, Focus, Go, LOOP, SECOND};
+use rows::Table;
 
-// The turn that a redex's outcome makes at place p.
-fn finish(r: Outcome, p: usize, i: usize) -> Go
+// The turn that a redex's outcome makes at place p. No `From`: a turn has a place and a level too.
+#[tactic(auto, unfolding(crate::specs::Comes::finish_of))]
+fn finish(r: Outcome<u64>, p: usize, i: usize) -> Go
     ensures { result ≡ finish_of r p i }
 {
     match r {
@@ -32,12 +32,12 @@ fn finish(r: Outcome, p: usize, i: usize) -> Go
 }
 
 // A Cast.
-pub fn back_cast(ws: &[u32], lay: Layout, heap: &[u64], p: usize, i: usize, w: u64) -> Go
-    requires { Good ws.now lay × Words (program ws.now) (class_count ws.now) heap.now × (p < lay.node_count) × IsValue w }
-    ensures { Stays ws.now heap.now 1 p i w result }
+pub fn back_cast(image: &Image, heap: &[u64], p: usize, i: usize, w: u64) -> Go
+    requires { Words (program image.now.words.now) (class_count image.now.words.now) heap.now × (p < image.now.layout.node_count) × IsValue w }
+    ensures { Stays image.now.words.now heap.now 1 p i w result }
 {
-    let c = image::node_word(ws, lay, p, 2) as usize;
-    finish(redexes::cast_redex(ws, lay, heap, c, w), p, i)
+    let c = image.node_word(p, 2) as usize;
+    finish(redexes::cast_redex(image, heap, c, w), p, i)
 }
 
 // An Add, whose first operand's value is v.
@@ -57,32 +57,22 @@ pub fn back_eq(i: usize, v: u64, w: u64) -> Go
 }
 
 // A Get.
-pub fn back_get(
-    ws: &[u32],
-    lay: Layout,
-    counts: &[usize],
-    heap: &[u64],
-    p: usize,
-    i: usize,
-    w: u64,
-) -> Go
-    requires { Good ws.now lay × Sizes ws.now counts.now × Words (program ws.now) (class_count ws.now) heap.now × (p < lay.node_count) × (node_word ws.now p 0 ≡ 7) × IsValue w }
-    ensures { Stays ws.now heap.now 7 p i w result }
+pub fn back_get(table: &Table, heap: &[u64], p: usize, i: usize, w: u64) -> Go
+    requires { Words (program table.now.image.words.now) (class_count table.now.image.words.now) heap.now × (p < table.now.image.layout.node_count) × (node_word table.now.image.words.now p 0 ≡ 7) × IsValue w }
+    ensures { Stays table.now.image.words.now heap.now 7 p i w result }
 {
-    let name = image::node_word(ws, lay, p, 2) as usize;
-    let d = image::node_word(ws, lay, p, 3) as usize;
-    match objects::field_spot(ws, lay, counts, heap, name, d, w) {
-        Spot::At(j) => Go::Stepped(Focus::Value(heap[j]), i),
-        Spot::Raises(a) => Go::Stepped(Focus::Thrown(a, p), i),
-        Spot::Fails => Go::Stuck(p),
+    let name = table.image.node_word(p, 2) as usize;
+    let d = table.image.node_word(p, 3) as usize;
+    match objects::field_spot(table, heap, name, d, w) {
+        Outcome::Gives(j) => Go::Stepped(Focus::Value(heap[j]), i),
+        Outcome::Raises(a) => Go::Stepped(Focus::Thrown(a, p), i),
+        Outcome::Fails => Go::Stuck(p),
     }
 }
 
 // A Set of the object of word v to the value of w. The heap is written with leave only.
 pub fn back_set(
-    ws: &[u32],
-    lay: Layout,
-    counts: &[usize],
+    table: &Table,
     heap: &mut [u64],
     may: bool,
     p: usize,
@@ -90,25 +80,26 @@ pub fn back_set(
     v: u64,
     w: u64,
 ) -> Go
-    requires { Good ws.now lay × Sizes ws.now counts.now × Words (program ws.now) (class_count ws.now) heap.old × (p < lay.node_count) × (node_word ws.now p 0 ≡ 8) × IsValue v }
-    ensures { (D : ℕ) (room : List ℕ) → Coming ws.now D heap.old room 24 p i w → word ws.now room i 2 ≡ v → Turned ws.now D may heap.old room (suc i) (Value w) heap.new room result }
+    requires { Words (program table.now.image.words.now) (class_count table.now.image.words.now) heap.old × (p < table.now.image.layout.node_count) × (node_word table.now.image.words.now p 0 ≡ 8) × IsValue v }
+    ensures { (D : ℕ) (room : List ℕ) → Coming table.now.image.words.now D heap.old room 24 p i w → word table.now.image.words.now room i 2 ≡ v → Turned table.now.image.words.now D may heap.old room (suc i) (Value w) heap.new room result }
 {
-    let name = image::node_word(ws, lay, p, 2) as usize;
-    let d = image::node_word(ws, lay, p, 3) as usize;
-    match objects::field_spot(ws, lay, counts, heap, name, d, v) {
-        Spot::At(j) => {
+    let name = table.image.node_word(p, 2) as usize;
+    let d = table.image.node_word(p, 3) as usize;
+    match objects::field_spot(table, heap, name, d, v) {
+        Outcome::Gives(j) => {
             if !may {
                 return Go::Limit;
             }
             heap[j] = w;
             Go::Stepped(Focus::Value(w), i)
         }
-        Spot::Raises(a) => Go::Stepped(Focus::Thrown(a, p), i),
-        Spot::Fails => Go::Stuck(p),
+        Outcome::Raises(a) => Go::Stepped(Focus::Thrown(a, p), i),
+        Outcome::Fails => Go::Stuck(p),
     }
 }
 
-// The first operand of an Add, an Eq or a Set, whose tag is t: the frame keeps it, and the second is gone into.
+// The first operand of an Add, an Eq or a Set, whose tag is t: the frame keeps it, and the second is gone into. The tag is a number, since
+// SECOND is added to it where it stands in the room.
 pub fn back_first(room: &mut [u64], t: u64, p: usize, i: usize, w: u64) -> Go
     requires { First t × (1 ≤ p) × (frame_at (suc i) ≤ length room.old) }
     ensures { (ws : List ℕ) → Changes ws room.old t p i w room.new result }
@@ -131,14 +122,14 @@ pub fn back_block(room: &mut [u64], i: usize, w: u64) -> Go
 }
 
 // An If.
-pub fn back_if(ws: &[u32], lay: Layout, p: usize, i: usize, w: u64) -> Go
-    requires { Good ws.now lay × (p < lay.node_count) × (node_word ws.now p 0 ≡ 12) × IsValue w }
-    ensures { (hs : List ℕ) → Stays ws.now hs 12 p i w result }
+pub fn back_if(image: &Image, p: usize, i: usize, w: u64) -> Go
+    requires { (p < image.now.layout.node_count) × (node_word image.now.words.now p 0 ≡ 12) × IsValue w }
+    ensures { (hs : List ℕ) → Stays image.now.words.now hs 12 p i w result }
 {
     match redexes::if_redex(w) {
-        Choice::Then => Go::Stepped(Focus::Node(operands::operand_place(ws, lay, p, 1)), i),
-        Choice::Otherwise => Go::Stepped(Focus::Node(p - 1), i),
-        Choice::Fails => Go::Stuck(p),
+        Some(true) => Go::Stepped(Focus::Node(operands::operand_place(image, p, 1)), i),
+        Some(false) => Go::Stepped(Focus::Node(p - 1), i),
+        None => Go::Stuck(p),
     }
 }
 
@@ -148,12 +139,12 @@ pub fn back_test(room: &mut [u64], p: usize, i: usize, w: u64) -> Go
     ensures { (ws : List ℕ) → Changes ws room.old 13 p i w room.new result }
 {
     match redexes::if_redex(w) {
-        Choice::Then => {
+        Some(true) => {
             room[FRAMES + FRAME_WORDS * i] = LOOP;
             Go::Stepped(Focus::Node(p - 1), i + 1)
         }
-        Choice::Otherwise => Go::Stepped(Focus::Value(0), i),
-        Choice::Fails => Go::Stuck(p),
+        Some(false) => Go::Stepped(Focus::Value(0), i),
+        None => Go::Stuck(p),
     }
 }
 
@@ -163,18 +154,18 @@ pub fn back_throw(p: usize, i: usize, w: u64) -> Go
     ensures { (ws hs : List ℕ) → Stays ws hs 14 p i w result }
 {
     match redexes::throw_redex(w) {
-        Thrown::Address(a) => Go::Moved(Focus::Thrown(a, p), i),
-        Thrown::Null => Go::Stepped(Focus::Thrown(heap::NULL_POINTER, p), i),
-        Thrown::Fails => Go::Stuck(p),
+        Outcome::Gives(a) => Go::Moved(Focus::Thrown(a, p), i),
+        Outcome::Raises(null_pointer) => Go::Stepped(Focus::Thrown(null_pointer, p), i),
+        Outcome::Fails => Go::Stuck(p),
     }
 }
 
 // An Assign. Where a block takes the value up, the sequence that the Assign begins goes on with its rest.
-pub fn back_assign(ws: &[u32], lay: Layout, room: &mut [u64], p: usize, i: usize, w: u64) -> Go
-    requires { Good ws.now lay × (p < lay.node_count) × (node_word ws.now p 0 ≡ 6) × Fit ws.now room.old (suc i) × IsValue w }
-    ensures { Changes ws.now room.old 6 p i w room.new result }
+pub fn back_assign(image: &Image, room: &mut [u64], p: usize, i: usize, w: u64) -> Go
+    requires { (p < image.now.layout.node_count) × (node_word image.now.words.now p 0 ≡ 6) × Fit image.now.words.now room.old (suc i) × IsValue w }
+    ensures { Changes image.now.words.now room.old 6 p i w room.new result }
 {
-    let x = image::node_word(ws, lay, p, 2) as usize;
+    let x = image.node_word(p, 2) as usize;
     if pushes::armed_seq(room, i, x) {
         let j = i - 1;
         let rest = pushes::take_up(room, j, x, w);

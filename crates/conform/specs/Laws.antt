@@ -1,6 +1,6 @@
 -- Laws: how the rules of the question follow each other.
 use Rattle.std.specs.Prelude.{◌≡◌, true, false, List, ℕ, length}
-use Rattle.order.specs.declared.Found.TheVariants.{At, Nowhere}
+use Rattle.std.specs.declared.option.Option.TheVariants.{Some, None}
 use Rattle.order.specs.Rules.{scan, first_place, accepted, answer_of}
 use Rattle.order.specs.Lowest.{held, after_broken, after_sound}
 use Rattle.image.specs.Trailer.{class_count}
@@ -23,16 +23,16 @@ module _ (ws hs is : List ℕ) where
 
 -- the one test of number 14
 module _ (hs : List ℕ) where
-  pub length_broken : heap_length_holds (length hs) ≡ false → first_place (heap_length_rule hs) ≡ At 0
+  pub length_broken : heap_length_holds (length hs) ≡ false → first_place (heap_length_rule hs) ≡ Some 0
   unfolding first_place scan heap_length_rule tested
   length_broken e = rw e
 
-  pub length_passed : heap_length_holds (length hs) ≡ true → first_place (heap_length_rule hs) ≡ Nowhere
+  pub length_passed : heap_length_holds (length hs) ≡ true → first_place (heap_length_rule hs) ≡ None
   unfolding first_place scan heap_length_rule tested
   length_passed e = rw e
 
 -- 10, 14 and 15 make the words a heap's
-pub heap_words : (ws hs : List ℕ) → first_place (fields_rule ws) ≡ Nowhere → heap_length_holds (length hs) ≡ true
-    → first_place (heap_word_rule ws hs) ≡ Nowhere → Words (program ws) (class_count ws) hs
+pub heap_words : (ws hs : List ℕ) → first_place (fields_rule ws) ≡ None → heap_length_holds (length hs) ≡ true
+    → first_place (heap_word_rule ws hs) ≡ None → Words (program ws) (class_count ws) hs
 unfolding fields_rule heap_word_rule
 heap_words ws hs few long hold = words ws hs (held (fields_rule ws) few) long (held (heap_word_rule ws hs) hold)

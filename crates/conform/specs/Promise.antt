@@ -9,8 +9,10 @@ use Rattle.image.specs.Layout.{format_rule, trailer_rule, ceiling_rule, class_ru
 use Rattle.layout.specs.Promise.{breach_of, breach_back, breach_range}
 use Rattle.rules.specs.Numbers.{fields_rule, heap_length_rule, heap_word_rule, input_rule, heap_rule, input_type_rule, conform_rules}
 use Rattle.conform.specs.Answers.{conformed_numbers}
-use Rattle.conform.specs.declared.Conformed.{Conformed}
-use Rattle.conform.specs.declared.Conformed.TheVariants.{Accepted, Layout, Fields, HeapLength, HeapWord, Input, HeapValue, InputValue}
+use Rattle.std.specs.declared.result.Result.{Result}
+use Rattle.std.specs.declared.result.Result.TheVariants.{Ok, Err}
+use Rattle.conform.specs.declared.Unfit.{Unfit}
+use Rattle.conform.specs.declared.Unfit.TheVariants.{Layout, Fields, HeapLength, HeapWord, Input, HeapValue, InputValue}
 
 rising : (ws hs is : List ℕ) → Rising 0 (conform_rules ws hs is)
 unfolding conform_rules layout_rules record_rules format_rule trailer_rule ceiling_rule class_rule field_rule method_rule type_rule node_rule body_rule tested fields_rule heap_length_rule heap_word_rule input_rule heap_rule input_type_rule
@@ -29,32 +31,32 @@ module _ (ws hs is : List ℕ) where
   pub same_answer : (a b : Answer) → a ≡ answer_of (conform_rules ws hs is) → b ≡ answer_of (conform_rules ws hs is) → a ≡ b
   same_answer a b e f = e ∙ sym f
 
--- The enum is determined too. The answer of a number and place:
-conformed_of : Answer → Conformed
+-- The result is determined too. The one of a number and place:
+conformed_of : Answer → Result Unit Unfit
 conformed_of a =
     cond
     (eqb a.number 0)
-    Accepted
+    (Ok tt)
     (cond
     (ltb a.number 10)
-    (Layout (breach_of a))
+    (Err (Layout (breach_of a)))
     (cond
     (eqb a.number 10)
-    (Fields a.place)
-    (get_or ((λ p. HeapLength) ∷ HeapWord ∷ Input ∷ HeapValue ∷ InputValue ∷ []) (a.number - 14) HeapWord a.place)))
+    (Err (Fields a.place))
+    (Err (get_or ((λ p. HeapLength) ∷ HeapWord ∷ Input ∷ HeapValue ∷ InputValue ∷ []) (a.number - 14) HeapWord a.place))))
 
--- each answer is that of its own number and place,
-back : (c : Conformed) → conformed_of (conformed_numbers c) ≡ c
+-- each is that of its own number and place,
+back : (c : Result Unit Unfit) → conformed_of (conformed_numbers c) ≡ c
 unfolding conformed_of
-back Accepted = refl
-back (Layout b) = rw ((breach_range b).0, (breach_range b).1, breach_back b)
-back (Fields p) = refl
-back HeapLength = refl
-back (HeapWord p) = refl
-back (Input p) = refl
-back (HeapValue p) = refl
-back (InputValue p) = refl
+back (Ok tt) = refl
+back (Err (Layout b)) = rw ((breach_range b).0, (breach_range b).1, breach_back b)
+back (Err (Fields p)) = refl
+back (Err HeapLength) = refl
+back (Err (HeapWord p)) = refl
+back (Err (Input p)) = refl
+back (Err (HeapValue p)) = refl
+back (Err (InputValue p)) = refl
 
 -- so two of the same number and place are equal.
-pub same_conformed : (c d : Conformed) → conformed_numbers c ≡ conformed_numbers d → c ≡ d
+pub same_conformed : (c d : Result Unit Unfit) → conformed_numbers c ≡ conformed_numbers d → c ≡ d
 same_conformed = determined conformed_numbers conformed_of back

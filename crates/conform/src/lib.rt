@@ -2,22 +2,20 @@
 #![tactic(auto)]
 
 ghost use Rattle.std.specs.Prelude.{◌≡◌};
-ghost use Rattle.order.specs.Rules.{first_place, answer_of};
-ghost use Rattle.order.specs.declared.Found.TheVariants.{Nowhere};
-ghost use Rattle.image.specs.Layout.{Good};
-ghost use Rattle.rules.specs.Conform.{conforms};
-ghost use Rattle.rules.specs.Numbers.{fields_rule, conform_rules};
-ghost use Rattle.rows.specs.Rows.{Rows};
-ghost use Rattle.conform.specs.Answers.{conformed_numbers, data_rules, loaded_rules};
+ghost use Rattle.order.specs.Rules.{answer_of};
+ghost use Rattle.rules.specs.Numbers.{conform_rules};
+ghost use Rattle.conform.specs.declared.Unfit.TheVariants.{Layout};
+ghost use Rattle.conform.specs.Answers.{unfit_numbers, conformed_numbers, data_rules, loaded_rules};
 
-use image::{Breach, Laid, Layout, MOST_CLASSES};
-use order::{Answer, Found};
-use rows::TABLE_WORDS;
+use fits::Heap;
+use image::{Breach, Image, MOST_CLASSES};
+use order::Answer;
+use rows::{TABLE_WORDS, Table};
 
-// What the conformity check answers: accepted, or the first breach with its place.
+// Why a heap and inputs do not fit an image: the first breach with its place. A run has other breaches (`refusals::Refusal`), so the two
+// are two enums.
 #[derive(Clone, Copy)]
-pub enum Conformed {
-    Accepted,
+pub enum Unfit {
     Layout(Breach),
     Fields(usize),
     HeapLength,
@@ -27,100 +25,97 @@ pub enum Conformed {
     InputValue(usize),
 }
 
-// 14 to 18, in this order.
-fn data_answer(
-    ws: &[u32],
-    l: Layout,
-    counts: &[usize],
-    types: &[u32],
-    heap: &[u64],
-    inputs: &[u64],
-) -> Conformed
-    requires { Good ws.now l × (first_place (fields_rule ws.now) ≡ Nowhere) × Rows ws.now counts.now types.now }
-    ensures { conformed_numbers result ≡ answer_of (data_rules ws.now heap.now inputs.now) }
+impl From<Breach> for Unfit {
+    ghost from_gives = { λ b result. result ≡ Layout b };
+
+    fn from(b: Breach) -> Unfit {
+        Unfit::Layout(b)
+    }
+}
+
+// 14 to 18, in this order. `refusals::judge` tests the first three too; shared, they would take an enum of their own and a `From` for each
+// of the two.
+#[tactic(auto, using(crate::specs::Laws::length_broken, crate::specs::Laws::length_passed, heap::specs::WordLaws::inputs_count), unfolding(order::specs::Rules::answer_of, crate::specs::Answers::data_rules, rules::specs::Numbers::heap_length_rule, rules::specs::Numbers::heap_word_rule, rules::specs::Numbers::input_rule, rules::specs::Numbers::heap_rule, rules::specs::Numbers::input_type_rule, image::specs::Layout::tested))]
+fn data_answer(table: &Table, heap: &[u64], inputs: &[u64]) -> Result<(), Unfit>
+    ensures { conformed_numbers result ≡ answer_of (data_rules table.now.image.words.now heap.now inputs.now) }
 {
     if !heap::heap_length_holds(heap.len()) {
-        return Conformed::HeapLength;
+        return Err(Unfit::HeapLength);
     }
-    if let Found::At(p) = heap::heap_word_place(ws, l, counts, heap) {
-        return Conformed::HeapWord(p);
+    if let Some(p) = heap::heap_word_place(table, heap) {
+        return Err(Unfit::HeapWord(p));
     }
-    if let Found::At(p) = heap::input_place(ws, l, inputs) {
-        return Conformed::Input(p);
+    if let Some(p) = heap::input_place(&table.image, inputs) {
+        return Err(Unfit::Input(p));
     }
-    if let Found::At(p) = fits::heap_place(ws, l, counts, types, heap) {
-        return Conformed::HeapValue(p);
+    let heap = Heap {
+        table: *table,
+        words: heap,
+    };
+    if let Some(p) = heap.word_place() {
+        return Err(Unfit::HeapValue(p));
     }
-    if let Found::At(p) = fits::input_type_place(ws, l, heap, inputs) {
-        return Conformed::InputValue(p);
+    if let Some(p) = heap.input_place(inputs) {
+        return Err(Unfit::InputValue(p));
     }
-    Conformed::Accepted
+    Ok(())
 }
 
 // 10 and then the rest, of an image whose layout holds.
-fn loaded_answer(ws: &[u32], l: Layout, heap: &[u64], inputs: &[u64]) -> Conformed
-    requires { Good ws.now l }
-    ensures { conformed_numbers result ≡ answer_of (loaded_rules ws.now heap.now inputs.now) }
+#[tactic(auto, unfolding(order::specs::Rules::answer_of, crate::specs::Answers::loaded_rules, rules::specs::Numbers::fields_rule))]
+fn loaded_answer(image: &Image, heap: &[u64], inputs: &[u64]) -> Result<(), Unfit>
+    ensures { conformed_numbers result ≡ answer_of (loaded_rules image.now.words.now heap.now inputs.now) }
 {
-    if let Found::At(p) = class_rules::fields_place(ws, l) {
-        return Conformed::Fields(p);
+    if let Some(p) = class_rules::fields_place(image) {
+        return Err(Unfit::Fields(p));
     }
     let mut counts: [usize; MOST_CLASSES] = [0; MOST_CLASSES];
     let mut types: [u32; TABLE_WORDS] = [0; TABLE_WORDS];
-    rows::fill_rows(ws, l, &mut counts, &mut types);
-    data_answer(ws, l, &counts, &types, heap, inputs)
+    rows::fill_rows(image, &mut counts, &mut types);
+    let table = Table {
+        image: *image,
+        counts: &counts,
+        types: &types,
+    };
+    data_answer(&table, heap, inputs)
 }
 
-// The first breach of an image, a heap and main's inputs. Any slices may be asked.
-pub fn check_conformity(image: &[u32], heap: &[u64], inputs: &[u64]) -> Conformed
+// Whether a heap and main's inputs fit an image, or the first breach. Any slices may be asked.
+#[tactic(auto, using(crate::specs::Laws::layout_broken, crate::specs::Laws::layout_sound))]
+pub fn check_conformity(image: &[u32], heap: &[u64], inputs: &[u64]) -> Result<(), Unfit>
     ensures { conformed_numbers result ≡ answer_of (conform_rules image.now heap.now inputs.now) }
 {
-    match layout::layout_of_image(image) {
-        Laid::Broken(b) => Conformed::Layout(b),
-        Laid::Sound(l) => loaded_answer(image, l, heap, inputs),
+    let image = layout::layout_of_image(image)?;
+    loaded_answer(&image, heap, inputs)
+}
+
+// The number and place of a breach.
+impl From<Unfit> for Answer {
+    ghost from_gives = { λ u result. result ≡ unfit_numbers u };
+
+    fn from(u: Unfit) -> Answer {
+        let (number, place) = match u {
+            Unfit::Layout(b) => return Answer::from(b),
+            Unfit::Fields(p) => (10, p),
+            Unfit::HeapLength => (14, 0),
+            Unfit::HeapWord(p) => (15, p),
+            Unfit::Input(p) => (16, p),
+            Unfit::HeapValue(p) => (17, p),
+            Unfit::InputValue(p) => (18, p),
+        };
+        Answer {
+            number,
+            place: place as u64,
+        }
     }
 }
 
-// The number and place of an answer.
-pub fn conformed_answer(a: Conformed) -> Answer
-    ensures { result ≡ conformed_numbers a }
-{
-    match a {
-        Conformed::Accepted => Answer {
-            number: 0,
-            place: 0,
-        },
-        Conformed::Layout(b) => image::breach_answer(b),
-        Conformed::Fields(p) => Answer {
-            number: 10,
-            place: p as u64,
-        },
-        Conformed::HeapLength => Answer {
-            number: 14,
-            place: 0,
-        },
-        Conformed::HeapWord(p) => Answer {
-            number: 15,
-            place: p as u64,
-        },
-        Conformed::Input(p) => Answer {
-            number: 16,
-            place: p as u64,
-        },
-        Conformed::HeapValue(p) => Answer {
-            number: 17,
-            place: p as u64,
-        },
-        Conformed::InputValue(p) => Answer {
-            number: 18,
-            place: p as u64,
-        },
-    }
-}
-
-// The number and place that a caller gets; 0 at 0 where all conforms.
+// The number and place that a caller gets; 0 at 0 where all conforms. As in `layout`, two arms say more than `map_or_else`.
 pub fn conformity(image: &[u32], heap: &[u64], inputs: &[u64]) -> Answer
     ensures { result ≡ answer_of (conform_rules image.now heap.now inputs.now) }
 {
-    conformed_answer(check_conformity(image, heap, inputs))
+    match check_conformity(image, heap, inputs) {
+        Ok(()) => Answer::ACCEPTED,
+        Err(u) => Answer::from(u),
+    }
 }

@@ -9,8 +9,9 @@ use Rattle.room.specs.declared.Focus.TheVariants.{Node, Value, Thrown}
 use Rattle.room.specs.declared.Go.{Go}
 use Rattle.room.specs.declared.Go.TheVariants.{Moved, Stepped, Limit, Sunk, Stuck, Deep, Over}
 use Rattle.ends.specs.declared.Finished.{Finished}
-use Rattle.ends.specs.declared.Next.{Next}
-use Rattle.ends.specs.declared.Next.TheVariants.{On}
+use Rattle.ends.specs.declared.Going.{Going}
+use Rattle.std.specs.declared.option.Option.{Option}
+use Rattle.std.specs.declared.option.Option.TheVariants.{Some, None}
 
 pub record Finishes (e : Ended) (r : Finished) (heap : List ℕ) : Type 0 where
   pub end_is : r.end ≡ e.end
@@ -28,15 +29,15 @@ unfoldable pub sunk_at : (limit count : ℕ) → Finished
 sunk_at limit count =
     cond (ltb count limit) (record { end = TooDeep; count = count + 1 }) (record { end = OutOfSteps; count = count })
 
--- what comes after a turn
-abbrev pub next_of : Go → (limit count : ℕ) → Next
-next_of (Moved f l) limit count = On f l count
-next_of (Stepped f l) limit count = cond (leb limit count) Next.End (On f l (count + 1))
-next_of Limit limit count = Next.End
-next_of Sunk limit count = Next.End
-next_of (Stuck q) limit count = Next.End
-next_of Deep limit count = Next.End
-next_of Over limit count = Next.End
+-- how the run goes on after a turn, if it is not at its end
+abbrev pub next_of : Go → (limit count : ℕ) → Option Going
+next_of (Moved f l) limit count = Some (record { focus = f; level = l; count = count })
+next_of (Stepped f l) limit count = cond (leb limit count) None (Some (record { focus = f; level = l; count = count + 1 }))
+next_of Limit limit count = None
+next_of Sunk limit count = None
+next_of (Stuck q) limit count = None
+next_of Deep limit count = None
+next_of Over limit count = None
 
 -- the end that the last turn makes, with the focus f
 abbrev pub ended_at : Go → Focus → (limit count : ℕ) → Finished

@@ -8,7 +8,7 @@ ghost use Rattle.ends.specs.Finished.{end_of, sunk_at, next_of, ended_at};
 
 use room::{Focus, Go};
 use rules::End;
-use words::{Decoded, Value};
+use words::Value;
 
 // How a run ended, and how many steps it took.
 #[derive(Clone, Copy)]
@@ -17,54 +17,48 @@ pub struct Finished {
     pub count: u64,
 }
 
-// The end of a run whose focus is final.
+// The end of a run whose focus is final. No `From`: the focus and the end are of other crates.
 fn final_end(f: Focus) -> End
     ensures { result ≡ end_of f }
 {
     match f {
         Focus::Node(_) => End::TooDeep,
-        Focus::Value(w) => match words::value_of(w) {
-            Decoded::Is(v) => End::Returned(v),
-            Decoded::Not => End::Returned(Value::Unit),
-        },
+        Focus::Value(w) => End::Returned(words::value_of(w).unwrap_or(Value::Unit)),
         Focus::Thrown(a, _) => End::Threw((a % 4294967296) as u32),
     }
 }
 
-// What comes after a turn: the run goes on with a focus under so many frames, after so many steps, or it is at its end.
+// The run goes on with a focus under so many frames, after so many steps.
 #[derive(Clone, Copy)]
-pub enum Next {
-    On(Focus, usize, u64),
-    End,
+pub struct Going {
+    pub focus: Focus,
+    pub level: usize,
+    pub count: u64,
 }
 
-pub fn next_of(g: Go, limit: u64, count: u64) -> Next
+// How the run goes on after a turn, if it is not at its end. Limit and count are two numbers of the run: a struct of both would be taken
+// apart at once.
+pub fn next_of(g: Go, limit: u64, count: u64) -> Option<Going>
     requires { count ≤ limit }
     ensures { result ≡ next_of g limit count }
 {
     match g {
-        Go::Moved(f, l) => Next::On(f, l, count),
-        Go::Stepped(f, l) => {
+        Go::Moved(focus, level) => Some(Going {
+            focus,
+            level,
+            count,
+        }),
+        Go::Stepped(focus, level) => {
             if limit <= count {
-                return Next::End;
+                return None;
             }
-            Next::On(f, l, count + 1)
+            Some(Going {
+                focus,
+                level,
+                count: count + 1,
+            })
         },
-        Go::Limit => Next::End,
-        Go::Sunk => Next::End,
-        Go::Stuck(_) => Next::End,
-        Go::Deep => Next::End,
-        Go::Over => Next::End,
-    }
-}
-
-// An end after so many steps.
-fn over(end: End, count: u64) -> Finished
-    ensures { result ≡ record { end = end; count = count } }
-{
-    Finished {
-        end: end,
-        count: count,
+        _ => None,
     }
 }
 
@@ -72,18 +66,18 @@ fn over(end: End, count: u64) -> Finished
 pub fn ended(g: Go, f: Focus, limit: u64, count: u64) -> Finished
     ensures { result ≡ ended_at g f limit count }
 {
-    match g {
-        Go::Moved(_, _) => over(End::OutOfSteps, count),
-        Go::Stepped(_, _) => over(End::OutOfSteps, count),
-        Go::Limit => over(End::OutOfSteps, count),
-        Go::Sunk => sunk(limit, count),
-        Go::Stuck(q) => over(End::Stuck(q), count),
-        Go::Deep => over(End::TooDeep, count),
-        Go::Over => over(final_end(f), count),
-    }
+    let end = match g {
+        Go::Moved(_, _) | Go::Stepped(_, _) | Go::Limit => End::OutOfSteps,
+        Go::Sunk => return sunk(limit, count),
+        Go::Stuck(q) => End::Stuck(q),
+        Go::Deep => End::TooDeep,
+        Go::Over => final_end(f),
+    };
+    Finished { end, count }
 }
 
 // A step after which the active place is too deep, if it may be taken.
+#[tactic(auto, unfolding(crate::specs::Finished::sunk_at))]
 fn sunk(limit: u64, count: u64) -> Finished
     ensures { result ≡ sunk_at limit count }
 {
@@ -95,7 +89,7 @@ fn sunk(limit: u64, count: u64) -> Finished
     } else {
         Finished {
             end: End::OutOfSteps,
-            count: count,
+            count,
         }
     }
 }

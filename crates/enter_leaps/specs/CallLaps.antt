@@ -30,7 +30,7 @@ use Rattle.calls.specs.Blocks.{Callable, Pushed}
 use Rattle.calls.specs.CallLaws.{call_goes}
 use Rattle.quick.specs.declared.Quick.{Quick}
 use Rattle.quick.specs.Known.{Stored, Locals, Eval, Known}
-use Rattle.landings.specs.Lands.{Lands, most_steps}
+use Rattle.landings.specs.Lands.{Lands, most_steps, at_node}
 use Rattle.landings.specs.LandsLaws.{lands_node}
 use Rattle.enter_leaps.specs.Enters.{Holds, Ready, Gathers}
 
@@ -78,7 +78,7 @@ module _ (ws hs room : List ℕ) (l n : ℕ) where
   ready_same R S (suc c) k s e (a, r, v, d, f) =
       (a, r, rw (e k (omega arith)) v, ready_same R S c (suc k) r (λ j h. e j (omega arith)) d, f)
 
-  pub gathers_start : (y : ℕ) → Gathers ws hs room l n y room n (y + 1) 1
+  pub gathers_start : (y : ℕ) → Gathers ws hs room l n y room n (y + 1) 0
   unfolding Ready begins
   gathers_start y =
       let z : suc y - (y + 1) ≡ 0 = omega arith in
@@ -86,7 +86,6 @@ module _ (ws hs room : List ℕ) (l n : ℕ) where
         kept = kept_refl room l;
         low = omega arith;
         ends = rw z;
-        begun = omega arith;
         few = omega arith;
         ready = rw z (omega arith);
       }
@@ -109,46 +108,44 @@ module _ (ws hs room : List ℕ) (l n : ℕ) where
         rw (gathers_node k b h) (omega (arith, i), operand_below ws n g j f, omega (arith, i, operand_size ws n g j f))
 
     gathers_next : (k : ℕ) (q : Quick) → Gathers ws hs room l n y R e (suc k) s → y ≡ node_word ws n 3 → k ≤ y
-        → Known ws hs R (e - 1) 1 q → (q.held ≡ 0 → ⊥) → frame_at l + (5 + k) < length R
-        → Gathers ws hs room l n y (set R (frame_at l + (5 + k)) (q.held - 1)) (e - node_word ws (e - 1) 1) k (s + q.steps)
+        → Known ws hs R (e - 1) 1 q → frame_at l + (5 + k) < length R
+        → Gathers ws hs room l n y (set R (frame_at l + (5 + k)) q.word) (e - node_word ws (e - 1) 1) k (s + q.steps)
     unfolding Ready begins
-    gathers_next k q b c h v d i =
+    gathers_next k q b c h v i =
         let at = frame_at l + (5 + k) in
-        let w = q.held - 1 in
+        let w = q.word in
         let z : suc y - k ≡ suc (y - k) = omega arith in
         let x : suc y - suc k ≡ y - k = omega arith in
         let o : e - 1 ≡ operand ws n (node_word ws n 3 - k) = rw (← c, ← x) (gathers_node (suc k) b (omega arith)) in
         let u : word ws (set R at w) l (5 + k) ≡ w = get_or-set_same R at w 0 i in
-        let f = v.eval w (omega (arith, d)) in
-        let g : Eval ws hs room (operand ws n (node_word ws n 3 - k)) w q.steps 1 = eval_locals (λ j m. b.kept.same j (omega arith)) (rw o at f) in
+        let g : Eval ws hs room (operand ws n (node_word ws n 3 - k)) w q.steps 1 = eval_locals (λ j m. b.kept.same j (omega arith)) (rw o at v.eval) in
         record {
           kept = kept_set at w (omega arith) b.kept;
           low = omega arith;
           ends = rw (z, b.ends, x);
-          begun = omega (arith, b.begun);
           few = omega (arith, b.few, v.few);
           ready =
               rw z (
                 q.steps,
-                s - 1,
+                s,
                 rw u g,
-                ready_same R (set R at w) (y - k) (suc k) (s - 1)
+                ready_same R (set R at w) (y - k) (suc k) s
                     (λ j m. get_or-set_other R at (frame_at l + (5 + j)) w 0 (λ p. let t : frame_at l + (5 + j) ≡ at = p in omega arith))
                     (rw x at b.ready),
-                omega (arith, b.begun),
+                omega arith,
               );
         }
 
     -- with the index as the code has it
     pub gathers_more : (k : ℕ) (q : Quick) → 0 < k → Gathers ws hs room l n y R e k s → y ≡ node_word ws n 3
-        → Known ws hs R (e - 1) 1 q → (q.held ≡ 0 → ⊥) → frame_at l + (5 + (k - 1)) < length R
-        → Gathers ws hs room l n y (set R (frame_at l + (5 + (k - 1))) (q.held - 1)) (e - node_word ws (e - 1) 1) (k - 1) (s + q.steps)
-    gathers_more zero q h b c v d i = absurd (omega arith)
-    gathers_more (suc k) q h b c v d i =
+        → Known ws hs R (e - 1) 1 q → frame_at l + (5 + (k - 1)) < length R
+        → Gathers ws hs room l n y (set R (frame_at l + (5 + (k - 1))) q.word) (e - node_word ws (e - 1) 1) (k - 1) (s + q.steps)
+    gathers_more zero q h b c v i = absurd (omega arith)
+    gathers_more (suc k) q h b c v i =
         let z : suc k - 1 ≡ k = omega arith in
-        rw z (gathers_next k q b c (omega (arith, b.low)) v d (rw z at i))
+        rw z (gathers_next k q b c (omega (arith, b.low)) v (rw z at i))
 
-    pub gathers_end : (k : ℕ) → k ≡ 0 → Gathers ws hs room l n y R e k s → Ready ws hs room R l n (suc y) 0 (s - 1)
+    pub gathers_end : (k : ℕ) → k ≡ 0 → Gathers ws hs room l n y R e k s → Ready ws hs room R l n (suc y) 0 s
     gathers_end k h b = let z : suc y - 0 ≡ suc y = omega arith in rw z at (rw h at b.ready)
 
 -- words behind the third of a pushed frame
@@ -325,10 +322,10 @@ module _ (ws : List ℕ) (g : Holds ws) (D : ℕ) (hs room R : List ℕ) (l n : 
       (rw u d) m v.heap in
       rw o at (leaps_before k (leaps_on ws D x (leads_on ws D v (leaps_step ws D (rw u at c)).leads)))
 
-  -- as the code says it: y arguments, and s is 1 more than the steps to the operands
-  module _ (y s : ℕ) (c : y ≡ node_word ws n 3) (r : Ready ws hs room R l n (suc y) 0 (s - 1)) where
+  -- as the code says it: y arguments, and s steps to the operands
+  module _ (y s : ℕ) (c : y ≡ node_word ws n 3) (r : Ready ws hs room R l n (suc y) 0 s) where
     pub operand_word_lem : (j : ℕ) → j ≤ y → IsValue (word ws R l (5 + j))
-    operand_word_lem j h = ready_values ws hs room l n R (suc y) 0 (s - 1) r j (omega arith) (omega arith)
+    operand_word_lem j h = ready_values ws hs room l n R (suc y) 0 s r j (omega arith) (omega arith)
 
     module _ (a j : ℕ) (t : EntersAt ws hs (node_word ws n 2) (node_word ws n 3) (value_at (word ws R l 5)) a j) (d : l + y ≤ D) where
       pub callable : Callable ws R l j y
@@ -341,9 +338,7 @@ module _ (ws : List ℕ) (g : Holds ws) (D : ℕ) (hs room R : List ℕ) (l n : 
             values = operand_word_lem;
           }
 
-      pub call_lands : (new : List ℕ) → (s ≡ 0 → ⊥) → s ≤ most_steps → Pushed ws R l n j y new (suc y) → method_word ws j 5 < node_count ws
-          → Lands ws D l hs room l (Node n) hs new
-          (record { how = 1; word = method_word ws j 5; place = 0; level = l + y + 1; steps = s })
-      call_lands new h m b i =
-          let z : s - 1 + 1 ≡ s = omega (arith, h) in
-          rw c (lands_node (rw z at (call_leaps (s - 1) a j new (rw c at r) t (rw c at b) (rw c at d) i)) m)
+      pub call_lands : (new : List ℕ) → s < most_steps → Pushed ws R l n j y new (suc y) → method_word ws j 5 < node_count ws
+          → Lands ws D l hs room l (Node n) hs new (at_node (method_word ws j 5) (l + y + 1) (s + 1))
+      call_lands new m b i =
+          rw c (lands_node (call_leaps s a j new (rw c at r) t (rw c at b) (rw c at d) i) (omega arith))

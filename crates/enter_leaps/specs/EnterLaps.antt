@@ -1,16 +1,15 @@
 -- Laws of leaps from a node. A leap goes through rooms that are never written: the room at its end agrees with the real one below
 -- the level, and no more is asked.
-use Rattle.std.specs.Prelude.{◌≡◌, Bool, true, ◌||◌, List, ◌⊎◌, ℕ, zero, suc, ◌+◌, ◌*◌, ◌-◌, ◌^◌, ◌≤◌, ◌<◌, eqb, length, get_or, set}
+use Rattle.std.specs.Prelude.{◌≡◌, true, List, ◌⊎◌, ℕ, zero, suc, ◌+◌, ◌*◌, ◌-◌, ◌^◌, ◌≤◌, ◌<◌, length, get_or, set}
 use Rattle.std.proofs.Math.Path.{refl}
 use Rattle.std.proofs.Common.{sym, ◌∙◌, inl, inr, arith, get_or-set_same, get_or-set_other}
 use Rattle.std.proofs.Math.Bool.{false}
 use Rattle.std.proofs.Math.Decide.{ℕ_discrete}
 use Rattle.std.proofs.Math.ListN.{length-set}
-use Rattle.std.proofs.lemmas.Bool.{eqb-false}
 use Rattle.image.specs.Nodes.{node_word, kind_of, operands, node_holds}
 use Rattle.rules.specs.Trees.{operand}
 use Rattle.laws.specs.Trees.{operand_count, operand_below}
-use Rattle.redexes.specs.declared.Choice.TheVariants.{Then, Otherwise}
+use Rattle.std.specs.declared.option.Option.TheVariants.{Some}
 use Rattle.redexes.specs.Outcomes.{Chooses}
 use Rattle.redexes.specs.RedexLaws.{if_then, if_otherwise}
 use Rattle.room.specs.declared.Focus.TheVariants.{Node, Value}
@@ -26,28 +25,10 @@ use Rattle.room.specs.LeadsLaws.{leaps_move, leaps_step, leaps_on, leaps_kept}
 use Rattle.quick.specs.declared.Quick.{Quick}
 use Rattle.quick.specs.Known.{Eval, Known}
 use Rattle.quick.specs.KnownLaws.{kept_back}
-use Rattle.landings.specs.Lands.{Lands}
+use Rattle.landings.specs.Lands.{Lands, at_node, at_value}
 use Rattle.landings.specs.LandsLaws.{lands_node, lands_value}
 use Rattle.landings.specs.SetLaws.{set_armed}
 use Rattle.enter_leaps.specs.Enters.{Holds, First, One, Two, Whole, Quickly}
-
--- an answer that holds a value
-pub known_eval : {ws hs room : List ℕ} {m d : ℕ} {q : Quick} → Known ws hs room m d q → (q.held ≡ 0 → ⊥)
-    → Eval ws hs room m (q.held - 1) q.steps d
-known_eval {q = q} k h = k.eval (q.held - 1) (omega (arith, h))
-
-pub true_then : (h : ℕ) → h ≡ 2 * 2 ^ 32 + 2 → Chooses (h - 1) Then
-true_then h e = if_then (h - 1) (omega (arith, e))
-
-pub false_otherwise : (h : ℕ) → h ≡ 2 * 2 ^ 32 + 1 → Chooses (h - 1) Otherwise
-false_otherwise h e = if_otherwise (h - 1) (omega (arith, e))
-
-pub some_held : (a : ℕ) (t : Bool) → (eqb a 0 || t) ≡ false → 1 ≤ a
-some_held a t h = go (eqb a 0) refl h
-  where
-    go : (s : Bool) → eqb a 0 ≡ s → (s || t) ≡ false → 1 ≤ a
-    go false e z = let d = eqb-false a 0 e in omega (arith, d)
-    go true e z = absurd (let y : ◌≡◌ {A = ℕ} 0 1 = cc in omega arith)
 
 -- the kinds that go on by a value
 pub quickly : (k : ℕ) → k < 16 → (k ≡ 0 → ⊥) → (k ≡ 2 → ⊥) → (k ≡ 3 → ⊥) → (k ≡ 9 → ⊥) → (k ≡ 10 → ⊥) → ((k ≡ 1) ⊎ (k ≡ 14) → ⊥)
@@ -204,7 +185,7 @@ module _ {ws : List ℕ} (g : Holds ws) {D : ℕ} {hs room : List ℕ} {l n : �
 
   -- an If whose condition is a boolean
   module _ (e : node_word ws n 0 ≡ 12) {w k : ℕ} (v : Eval ws hs room (operand ws n 2) w k 2) where
-    pub then_leaps : Chooses w Then → Leaps ws D (k + 1) hs room l (Node n) hs room l (Node (operand ws n 1))
+    pub then_leaps : Chooses w (Some true) → Leaps ws D (k + 1) hs room l (Node n) hs room l (Node (operand ws n 1))
     then_leaps c =
         let t : tag ws (push room l 12 n) l ≡ 12 = push_tag ws room l 12 n long in
         let q : word ws (push room l 12 n) l 1 ≡ n = push_place ws room l 12 n long in
@@ -212,7 +193,7 @@ module _ {ws : List ℕ} (g : Holds ws) {D : ℕ} {hs room : List ℕ} {l n : �
         let s = then_steps ws g D hs (push room l 12 n) l w a.leads.inv a.leads.heap t (c _ _ _ _ _) in
         leaps_kept ws D (leaps_on ws D a (leaps_step ws D (rw q at s)).leads) (kept_back (push_kept ws room l 12 n))
 
-    pub else_leaps : Chooses w Otherwise → Leaps ws D (k + 1) hs room l (Node n) hs room l (Node (operand ws n 0))
+    pub else_leaps : Chooses w (Some false) → Leaps ws D (k + 1) hs room l (Node n) hs room l (Node (operand ws n 0))
     else_leaps c =
         let t : tag ws (push room l 12 n) l ≡ 12 = push_tag ws room l 12 n long in
         let q : word ws (push room l 12 n) l 1 ≡ n = push_place ws room l 12 n long in
@@ -233,7 +214,7 @@ module _ {ws : List ℕ} (g : Holds ws) {D : ℕ} {hs room : List ℕ} {l n : �
           (v.leaps D (push room l 13 n) (suc l) (λ x h. (push_kept ws room l 13 n).same x (omega arith)) a.leads.inv a.leads.heap
           (omega arith)).leads
 
-      pub again_leaps : Chooses w Then → Leaps ws D (k + 2) hs room l (Node n) hs (push room l 29 n) (suc l) (Node (operand ws n 0))
+      pub again_leaps : Chooses w (Some true) → Leaps ws D (k + 2) hs room l (Node n) hs (push room l 29 n) (suc l) (Node (operand ws n 0))
       again_leaps c =
           let t : tag ws (push room l 13 n) l ≡ 13 = push_tag ws room l 13 n long in
           let q : word ws (push room l 13 n) l 1 ≡ n = push_place ws room l 13 n long in
@@ -243,7 +224,7 @@ module _ {ws : List ℕ} (g : Holds ws) {D : ℕ} {hs room : List ℕ} {l n : �
           rw z at
           (leaps_kept ws D (leaps_on ws D a (leaps_step ws D (rw q at s)).leads) (kept_tag room l 13 29 n (omega (arith, inv.long))))
 
-      pub over_leaps : Chooses w Otherwise → Leaps ws D (k + 2) hs room l (Node n) hs room l (Value 0)
+      pub over_leaps : Chooses w (Some false) → Leaps ws D (k + 2) hs room l (Node n) hs room l (Value 0)
       over_leaps c =
           let t : tag ws (push room l 13 n) l ≡ 13 = push_tag ws room l 13 n long in
           let a = tested in
@@ -258,34 +239,28 @@ module _ {ws : List ℕ} (g : Holds ws) {D : ℕ} {hs room : List ℕ} {l n : �
 
   -- The same, as answers of quick operands give it.
   module _ {q : Quick} where
-    pub whole_lands : Known ws hs room n 2 q → (q.held ≡ 0 → ⊥)
-        → Lands ws D l hs room l (Node n) hs room (record { how = 2; word = q.held - 1; place = 0; level = l; steps = q.steps })
-    whole_lands k h =
-        lands_value ((known_eval k h).leaps D room l (λ x y. refl) inv heap (omega arith)) (omega (arith, k.few)) (omega arith)
+    pub whole_lands : Known ws hs room n 2 q → Lands ws D l hs room l (Node n) hs room (at_value q.word l q.steps)
+    whole_lands k =
+        lands_value (k.eval.leaps D room l (λ x y. refl) inv heap (omega arith)) (omega (arith, k.few)) (omega arith)
 
-    pub assign_lands : node_word ws n 0 ≡ 6 → Known ws hs room (operand ws n 0) 2 q → (q.held ≡ 0 → ⊥) → (get_or room (node_word ws n 2) 0 ≡ 0 → ⊥)
-        → Lands ws D l hs room l (Node n) hs (set room (node_word ws n 2) q.held)
-        (record { how = 2; word = q.held - 1; place = 0; level = l; steps = q.steps + 1 })
-    assign_lands e k h d =
-        let z : suc (q.held - 1) ≡ q.held = omega (arith, h) in
-        lands_value (rw z at (assign_leaps e (known_eval k h) d)) (omega (arith, k.few)) (omega arith)
+    pub assign_lands : node_word ws n 0 ≡ 6 → Known ws hs room (operand ws n 0) 2 q → (get_or room (node_word ws n 2) 0 ≡ 0 → ⊥)
+        → Lands ws D l hs room l (Node n) hs (set room (node_word ws n 2) (suc q.word)) (at_value q.word l (q.steps + 1))
+    assign_lands e k d = lands_value (assign_leaps e k.eval d) (omega (arith, k.few)) (omega arith)
 
-    pub then_lands : node_word ws n 0 ≡ 12 → Known ws hs room (operand ws n 2) 2 q → q.held ≡ 2 * 2 ^ 32 + 2
-        → Lands ws D l hs room l (Node n) hs room (record { how = 1; word = operand ws n 1; place = 0; level = l; steps = q.steps + 1 })
-    then_lands e k h = lands_node (then_leaps e (known_eval k (λ z. omega arith)) (true_then q.held h)) (omega (arith, k.few))
+    pub then_lands : node_word ws n 0 ≡ 12 → Known ws hs room (operand ws n 2) 2 q → q.word ≡ 2 * 2 ^ 32 + 1
+        → Lands ws D l hs room l (Node n) hs room (at_node (operand ws n 1) l (q.steps + 1))
+    then_lands e k h = lands_node (then_leaps e k.eval (if_then q.word h)) (omega (arith, k.few))
 
-    pub else_lands : node_word ws n 0 ≡ 12 → Known ws hs room (operand ws n 2) 2 q → q.held ≡ 2 * 2 ^ 32 + 1
-        → Lands ws D l hs room l (Node n) hs room (record { how = 1; word = n - 1; place = 0; level = l; steps = q.steps + 1 })
+    pub else_lands : node_word ws n 0 ≡ 12 → Known ws hs room (operand ws n 2) 2 q → q.word ≡ 2 * 2 ^ 32
+        → Lands ws D l hs room l (Node n) hs room (at_node (n - 1) l (q.steps + 1))
     unfolding operand
-    else_lands e k h = lands_node (else_leaps e (known_eval k (λ z. omega arith)) (false_otherwise q.held h)) (omega (arith, k.few))
+    else_lands e k h = lands_node (else_leaps e k.eval (if_otherwise q.word h)) (omega (arith, k.few))
 
-    pub again_lands : node_word ws n 0 ≡ 13 → Known ws hs room (operand ws n 1) 2 q → q.held ≡ 2 * 2 ^ 32 + 2
-        → Lands ws D l hs room l (Node n) hs (push room l 29 n)
-        (record { how = 1; word = n - 1; place = 0; level = suc l; steps = q.steps + 2 })
+    pub again_lands : node_word ws n 0 ≡ 13 → Known ws hs room (operand ws n 1) 2 q → q.word ≡ 2 * 2 ^ 32 + 1
+        → Lands ws D l hs room l (Node n) hs (push room l 29 n) (at_node (n - 1) (suc l) (q.steps + 2))
     unfolding operand
-    again_lands e k h = lands_node (again_leaps e (known_eval k (λ z. omega arith)) (true_then q.held h)) (omega (arith, k.few))
+    again_lands e k h = lands_node (again_leaps e k.eval (if_then q.word h)) (omega (arith, k.few))
 
-    pub over_lands : node_word ws n 0 ≡ 13 → Known ws hs room (operand ws n 1) 2 q → q.held ≡ 2 * 2 ^ 32 + 1
-        → Lands ws D l hs room l (Node n) hs room (record { how = 2; word = 0; place = 0; level = l; steps = q.steps + 2 })
-    over_lands e k h =
-        lands_value (over_leaps e (known_eval k (λ z. omega arith)) (false_otherwise q.held h)) (omega (arith, k.few)) (omega arith)
+    pub over_lands : node_word ws n 0 ≡ 13 → Known ws hs room (operand ws n 1) 2 q → q.word ≡ 2 * 2 ^ 32
+        → Lands ws D l hs room l (Node n) hs room (at_value 0 l (q.steps + 2))
+    over_lands e k h = lands_value (over_leaps e k.eval (if_otherwise q.word h)) (omega (arith, k.few)) (omega arith)

@@ -9,6 +9,7 @@ use Rattle.room.specs.Room.{search_word, first, shape_of, word}
 use Rattle.room.specs.RoomLaws.{Kept}
 use Rattle.room.specs.Turn.{HeapOk, Inv}
 use Rattle.quick.specs.Known.{Eval, most_quick}
+use Rattle.std.specs.declared.option.Option.{Option}
 use Rattle.landings.specs.declared.Leap.{Leap}
 use Rattle.landings.specs.Lands.{Lands}
 
@@ -17,7 +18,7 @@ abbrev pub Holds : List ℕ → Type 0
 Holds ws = (n : ℕ) → n < node_count ws → node_holds ws n ≡ true
 
 -- A leap from node n under every depth limit that leaves three levels.
-abbrev pub Enters : (ws hs room : List ℕ) (l n : ℕ) (hs' room' : List ℕ) → Leap → Type 0
+abbrev pub Enters : (ws hs room : List ℕ) (l n : ℕ) (hs' room' : List ℕ) → Option Leap → Type 0
 Enters ws hs room l n hs' room' r =
     (D : ℕ) → Inv ws D room l (Node n) → HeapOk ws hs (get_or room search_word 0) → l + 3 ≤ D → Lands ws D l hs room l (Node n) hs' room' r
 
@@ -60,11 +61,10 @@ module _ (ws hs room R : List ℕ) (l n : ℕ) where
       (a : ℕ) × (r : ℕ) × Eval ws hs room (operand ws n (node_word ws n 3 - k)) (word ws R l (5 + k)) a 1 × Ready c (suc k) r × (s ≡ a + r)
 
 -- A Call's y arguments and its receiver are gone through from the last on: those from index k on are ready, the trees before them end
--- before node e, and s is 1 more than the steps to them. The room was once `room`.
+-- before node e, and s is the steps to them. The room was once `room`.
 pub record Gathers (ws hs room : List ℕ) (l n y : ℕ) (R : List ℕ) (e k s : ℕ) : Type 0 where
   pub kept : Kept room R l
   pub low : k ≤ suc y
   pub ends : e ≡ begins ws n (suc y - k)
-  pub begun : 1 ≤ s
-  pub few : s ≤ 1 + most_quick * (suc y - k)
-  pub ready : Ready ws hs room R l n (suc y - k) k (s - 1)
+  pub few : s ≤ most_quick * (suc y - k)
+  pub ready : Ready ws hs room R l n (suc y - k) k s

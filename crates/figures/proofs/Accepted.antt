@@ -5,7 +5,7 @@ use Rattle.std.proofs.Common.{◌∙◌, arith, ltb-true, ltb-false}
 use Rattle.std.proofs.Math.Option.{none, some}
 use mathlib.Core.List.{List, [], ◌∷◌, ◌++◌, map}
 use Rattle.std.proofs.Math.ListN.{get_or-eq_default}
-use Rattle.order.specs.declared.Found.TheVariants.{Nowhere}
+use Rattle.std.specs.declared.option.Option.TheVariants.{None}
 use Rattle.order.specs.Rules.{first_place}
 use Rattle.order.specs.Lowest.{held}
 use Rattle.words.specs.declared.Ty.{Ty}
@@ -31,7 +31,7 @@ use Rattle.figures.proofs.Laid.{written_tree, laid_sets}
 use Rattle.figures.specs.Accepted.{BodyTyped, Figure1Holds, Figure2Holds}
 
 -- LISTS OF TESTS
-nowhere_all : (n : ℕ) (bs : List Bool) → first_place (tested n bs) ≡ Nowhere → AllHold bs
+nowhere_all : (n : ℕ) (bs : List Bool) → first_place (tested n bs) ≡ None → AllHold bs
 unfolding tested
 nowhere_all n bs e i = go (ltb i (length bs)) refl
   where
@@ -122,7 +122,7 @@ module _ (ws : List ℕ) (hold : NodesHold ws) (filled : BodiesHold ws) where
       (t.type, typed_bound P m.body (method_env m) m.result t.type (typed P t.typed) t.within)
 
   -- 12 is unbroken exactly when figure 1 holds
-  pub figure_1 : (first_place (typing_rule ws) ≡ Nowhere) ↔ Figure1Holds ws
+  pub figure_1 : (first_place (typing_rule ws) ≡ None) ↔ Figure1Holds ws
   unfolding typing_rule main_tests bounded
   figure_1 = (
     λ e.
@@ -158,7 +158,7 @@ module _ (ws : List ℕ) (hold : NodesHold ws) (filled : BodiesHold ws) where
   main_set = sets_reads (main_node ws) (omega (arith, (main_filled ws (filled (method_count ws) (omega arith))).1)) _
 
   -- 13 is unbroken exactly when figure 2 holds
-  pub figure_2 : (first_place (setting_rule ws) ≡ Nowhere) ↔ Figure2Holds ws
+  pub figure_2 : (first_place (setting_rule ws) ≡ None) ↔ Figure2Holds ws
   unfolding setting_rule all_reads
   figure_2 = (
     λ e.

@@ -3,7 +3,7 @@
 use Rattle.std.specs.Prelude.{◌≡◌, refl, Bool, true, false, List, [], ◌∷◌, ◌++◌, ℕ, zero, suc, ◌+◌, ◌-◌, ◌≤◌, ◌<◌, length, get_or}
 use Rattle.std.proofs.Common.{sym, ◌∙◌, ap, arith, length-append}
 use Rattle.std.proofs.Math.Decide.{ℕ_discrete}
-use Rattle.order.specs.declared.Found.TheVariants.{At, Nowhere}
+use Rattle.std.specs.declared.option.Option.TheVariants.{Some, None}
 use Rattle.order.specs.Rules.{scan, first_place}
 use Rattle.image.specs.Layout.{tested}
 use Rattle.rules.specs.Maps.{tabulate}
@@ -21,13 +21,13 @@ fails_within [] k e = never true refl e
 fails_within (b ∷ bs) zero e = omega arith
 fails_within (b ∷ bs) (suc k) e = let z = fails_within bs k e in omega arith
 
-scan_none : (f : ℕ → Bool) (k i : ℕ) → ((j : ℕ) → f j ≡ true) → scan f k i ≡ Nowhere
+scan_none : (f : ℕ → Bool) (k i : ℕ) → ((j : ℕ) → f j ≡ true) → scan f k i ≡ None
 unfolding scan
 scan_none f zero i h = refl
 scan_none f (suc k) i h = rw (h i) (scan_none f k (suc i) h)
 
 -- of k places from i on, the first that fails is d further
-scan_first : (f : ℕ → Bool) (k i d : ℕ) → d < k → f (i + d) ≡ false → ((j : ℕ) → j < i + d → f j ≡ true) → scan f k i ≡ At (i + d)
+scan_first : (f : ℕ → Bool) (k i d : ℕ) → d < k → f (i + d) ≡ false → ((j : ℕ) → j < i + d → f j ≡ true) → scan f k i ≡ Some (i + d)
 unfolding scan
 scan_first f zero i d l e h = absurd (omega arith)
 scan_first f (suc k) i zero l e h =
@@ -38,15 +38,15 @@ scan_first f (suc k) i (suc d) l e h =
     let z : i + suc d ≡ suc i + d = omega arith in
     rw (h i (omega arith), z) (scan_first f k (suc i) d (omega arith) (rw z at e) (λ j m. h j (omega arith)))
 
-pub first_place_lem : (n : ℕ) (bs : List Bool) (p : ℕ) → FirstAt bs p → At p ≡ first_place (tested n bs)
+pub first_place_lem : (n : ℕ) (bs : List Bool) (p : ℕ) → FirstAt bs p → Some p ≡ first_place (tested n bs)
 unfolding first_place tested
 first_place_lem n bs p f =
     let z : 0 + p ≡ p = omega arith in
     sym
     (scan_first (λ i. get_or bs i true) (length bs) 0 p (fails_within bs p f.fails) (rw z f.fails) (λ j m. f.lower j (omega arith))
-    ∙ ap At z)
+    ∙ ap Some z)
 
-pub no_place : (n : ℕ) (bs : List Bool) → AllHold bs → Nowhere ≡ first_place (tested n bs)
+pub no_place : (n : ℕ) (bs : List Bool) → AllHold bs → None ≡ first_place (tested n bs)
 unfolding first_place tested
 no_place n bs h = sym (scan_none (λ i. get_or bs i true) (length bs) 0 h)
 
@@ -115,18 +115,18 @@ module _ {f : ℕ → List Bool} {m : ℕ} {s : ℕ → ℕ} (d : Bodies f m s) 
   begun i l = omega (arith, d.zeroth, summed f s i (λ j w. d.next j (omega arith)))
 
   pub body_told : (i : ℕ) → i < m → ((j : ℕ) → j < i → AllHold (f j)) → Told (s i) (f i) p
-      → At p ≡ first_place (tested n (joined (tabulate m f) ++ last))
+      → Some p ≡ first_place (tested n (joined (tabulate m f) ++ last))
   body_told i l h t =
       let z : p ≡ length (joined (tabulate i f)) + t.index = omega (arith, t.at, begun i (omega arith)) in
       rw z (first_place_lem n _ _ (first_before (joined (tabulate m f)) last _ (first_joined f m i t.index l h t.first)))
 
-  pub main_told : ((j : ℕ) → j < m → AllHold (f j)) → Told (s m) last p → At p ≡ first_place (tested n (joined (tabulate m f) ++ last))
+  pub main_told : ((j : ℕ) → j < m → AllHold (f j)) → Told (s m) last p → Some p ≡ first_place (tested n (joined (tabulate m f) ++ last))
   main_told h t =
       let z : p ≡ length (joined (tabulate m f)) + t.index = omega (arith, t.at, begun m (omega arith)) in
       rw z (first_place_lem n _ _ (first_behind (joined (tabulate m f)) last t.index (all_joined f m h) t.first))
 
 pub none_told : (f : ℕ → List Bool) (m n : ℕ) (last : List Bool) → ((j : ℕ) → j < m → AllHold (f j)) → AllHold last
-    → Nowhere ≡ first_place (tested n (joined (tabulate m f) ++ last))
+    → None ≡ first_place (tested n (joined (tabulate m f) ++ last))
 none_told f m n last h k = no_place n _ (all_append (joined (tabulate m f)) last (all_joined f m h) k)
 
 -- one more body holds

@@ -2,131 +2,118 @@
 // goes wrong is told by number; the script `muthaveri` has the words.
 #![tactic(auto)]
 
-ghost use Rattle.std.specs.Prelude.{◌≡◌, ◌+◌, ◌*◌, ◌≤◌, ◌<◌, length};
+ghost use Rattle.std.specs.Prelude.{◌≡◌, ◌+◌, ◌*◌, ◌≤◌, ◌<◌, length, IfOk, IfErr, IfSome, ◌⊎◌};
 ghost use Rattle.text.specs.Words.{Counts};
+ghost use Rattle.files.specs.declared.Fault.TheVariants.{NoArgument, NotWritten, NameTaken, NoNumber};
 
 use std::env::{Env, FillError};
 use std::fs::{Files, OpenFile, OpenOptions};
 use std::io::{ErrorKind, Read, Write};
 use std::{fs, io, str};
-use text::Fed;
+use text::{NotFed, Word};
 
-// An argument that is missing, too long, or empty where it names OUT.
-const NO_ARGUMENT: u64 = 1;
+// What goes wrong, with the number that it is told by.
+#[derive(Clone, Copy, PartialEq, Eq)]
+pub enum Fault {
+    // An argument that is missing, too long, or empty where it names OUT.
+    NoArgument = 1,
+    NoFile = 2,
+    NotAllowed = 3,
+    NotOpened = 4,
+    NotRead = 5,
+    TooLong = 6,
+    // The length is no multiple of a word's.
+    NoMultiple = 7,
+    NotWritten = 8,
+    // The name that the file has until it is whole belongs to another.
+    NameTaken = 9,
+    NoNumber = 10,
+}
 
-const NO_FILE: u64 = 2;
+impl From<Fault> for u64 {
+    ghost from_gives = { λ _ n. (1 ≤ n) × (n ≤ 10) };
 
-const NOT_ALLOWED: u64 = 3;
+    fn from(fault: Fault) -> u64 {
+        fault as u64
+    }
+}
 
-const NOT_OPENED: u64 = 4;
+impl From<NotFed> for Fault {
+    ghost from_gives = { λ _ e. e ≡ NoNumber };
 
-const NOT_READ: u64 = 5;
-
-const TOO_LONG: u64 = 6;
-
-// The length is no multiple of a word's.
-const NO_MULTIPLE: u64 = 7;
-
-const NOT_WRITTEN: u64 = 8;
-
-// The name that the file has until it is whole belongs to another.
-const NAME_TAKEN: u64 = 9;
-
-const NO_NUMBER: u64 = 10;
+    fn from(_why: NotFed) -> Fault {
+        Fault::NoNumber
+    }
+}
 
 // The system's number for an operation that is not permitted.
 const EPERM: i32 = 1;
 
-// How many words, or bytes, are at the start of a buffer, and what went wrong; 0 where nothing did.
-#[derive(Clone, Copy)]
-pub struct Taken {
-    pub count: usize,
-    pub fault: u64,
-}
+// The bytes of a file of most words.
+pub const MOST_BYTES: usize = 1048576;
 
-// Space for the bytes of a file. The contract spares the prover to count the zeros.
-pub fn space() -> [u8; 1048576]
-    ensures { 1048576 ≡ length result }
-{
-    [0; 1048576]
-}
+// The longest name of a file.
+const LONGEST_NAME: usize = 4096;
 
-// Space for an argument, as long as the longest name of a file.
-fn argument_space() -> [u8; 4096]
-    ensures { 4096 ≡ length result }
+// The words of a file: of an image, of a heap, or inputs. How many words are at the start of the memory for them
+// then. A file that has more bytes than there is space for is too long. The memory is lent, since nothing is taken from a heap.
+pub fn words<W: Word>(
+    rt: &(impl Env + Files),
+    argument: usize,
+    space: &mut [u8],
+    words: &mut [W],
+) -> Result<usize, Fault>
+    ensures { IfOk result (λ n. Counts n words.new) }
 {
-    [0; 4096]
-}
-
-// The words of an image. A file that has more bytes than there is space for is too long.
-pub fn image(rt: &(impl Env + Files), argument: usize, space: &mut [u8], words: &mut [u32]) -> Taken
-    ensures { Counts result.count words.new }
-{
-    let bytes = take(rt, argument, space, 4);
-    let n = bytes.count;
-    Taken {
-        count: text::words32(&space[..n], words),
-        fault: bytes.fault,
-    }
-}
-
-// The words of a heap, or inputs.
-pub fn words(rt: &(impl Env + Files), argument: usize, space: &mut [u8], words: &mut [u64]) -> Taken
-    ensures { Counts result.count words.new }
-{
-    let bytes = take(rt, argument, space, 8);
-    let n = bytes.count;
-    Taken {
-        count: text::words64(&space[..n], words),
-        fault: bytes.fault,
-    }
+    let n = take(rt, argument, space, W::BYTES)?;
+    Ok(text::words(&space[..n], words))
 }
 
 // The bytes of a file of words of so many bytes.
-fn take(rt: &(impl Env + Files), argument: usize, space: &mut [u8], width: usize) -> Taken
+fn take(
+    rt: &(impl Env + Files),
+    argument: usize,
+    space: &mut [u8],
+    width: usize,
+) -> Result<usize, Fault>
     requires { 0 < width }
-    ensures { Counts result.count space.new }
+    ensures { IfOk result (λ n. Counts n space.new) }
 {
-    let mut path = argument_space();
+    let mut path = text::zeros::<u8, LONGEST_NAME>();
     let Ok(n) = rt.arg(argument, &mut path) else {
-        return failed(NO_ARGUMENT);
+        return Err(Fault::NoArgument);
     };
     // a path of std is text
     let Ok(path) = str::from_utf8(&path[..n]) else {
-        return failed(NOT_OPENED);
+        return Err(Fault::NotOpened);
     };
     match fs::open(rt, path) {
         Ok(file) => read(file, space, width),
-        Err(e) => failed(not_opened(&e)),
+        Err(e) => Err(not_opened(&e)),
     }
 }
 
-fn failed(fault: u64) -> Taken
-    ensures { result.count ≡ 0 }
-{
-    Taken { count: 0, fault }
-}
-
-// std has one kind for EACCES and EPERM, and only the first says that the file may not be read.
-fn not_opened(e: &io::Error) -> u64 {
+// std has one kind for EACCES and EPERM, and only the first says that the file may not be read. A kind alone does not say what was done, so
+// neither this function nor `not_made` is a `From`.
+fn not_opened(e: &io::Error) -> Fault {
     match e.kind() {
-        ErrorKind::NotFound => NO_FILE,
-        ErrorKind::PermissionDenied if e.raw_os_error() != Some(EPERM) => NOT_ALLOWED,
-        _ => NOT_OPENED,
+        ErrorKind::NotFound => Fault::NoFile,
+        ErrorKind::PermissionDenied if e.raw_os_error() != Some(EPERM) => Fault::NotAllowed,
+        _ => Fault::NotOpened,
     }
 }
 
 // One more read shows whether the file ends where the reading did, goes on, or cannot be read.
-fn read<F: Read + Drop>(mut file: F, space: &mut [u8], width: usize) -> Taken
+fn read<F: Read + Drop>(mut file: F, space: &mut [u8], width: usize) -> Result<usize, Fault>
     requires { 0 < width }
-    ensures { Counts result.count space.new }
+    ensures { IfOk result (λ n. Counts n space.new) }
 {
     let count = fill(&mut file, space);
-    let mut probe = [0u8; 1];
-    let more = file.read(&mut probe);
-    Taken {
-        count,
-        fault: fault_of(more, count % width),
+    match file.read(&mut [0u8; 1]) {
+        Err(_) => Err(Fault::NotRead),
+        Ok(0) if count % width == 0 => Ok(count),
+        Ok(0) => Err(Fault::NoMultiple),
+        Ok(_) => Err(Fault::TooLong),
     }
 }
 
@@ -145,106 +132,78 @@ fn fill(file: &mut impl Read, space: &mut [u8]) -> usize
     done
 }
 
-fn fault_of(more: io::Result<usize>, rest: usize) -> u64 {
-    match more {
-        Err(_) => NOT_READ,
-        Ok(0) if rest == 0 => 0,
-        Ok(0) => NO_MULTIPLE,
-        Ok(_) => TOO_LONG,
-    }
-}
-
-// A number, or what is wrong with it.
-#[derive(Clone, Copy)]
-pub struct Given {
-    pub number: u64,
-    pub fault: u64,
-}
-
-pub fn number(rt: &impl Env, argument: usize) -> Given
-    ensures { result.fault ≤ 10 }
+pub fn number(rt: &impl Env, argument: usize) -> Result<u64, Fault>
+    ensures { IfErr result (λ e. e ≡ Fault.NoNumber) }
 {
-    let mut digits = argument_space();
+    let mut digits = text::zeros::<u8, LONGEST_NAME>();
     match rt.arg(argument, &mut digits) {
         Ok(n) => number_of(&digits[..n]),
-        Err(_) => no_number(),
+        Err(_) => Err(Fault::NoNumber),
     }
 }
 
-fn no_number() -> Given
-    ensures { result.fault ≤ 10 }
+// `parse` would take a sign, too.
+fn number_of(digits: &[u8]) -> Result<u64, Fault>
+    ensures { IfErr result (λ e. e ≡ Fault.NoNumber) }
 {
-    Given {
-        number: 0,
-        fault: NO_NUMBER,
-    }
-}
-
-fn number_of(digits: &[u8]) -> Given
-    ensures { result.fault ≤ 10 }
-{
-    if digits.len() == 0 {
-        return no_number();
+    if digits.is_empty() {
+        return Err(Fault::NoNumber);
     }
     let mut number = 0;
-    let mut i = 0;
-    while i < digits.len() {
-        let Fed::Number(more) = text::feed(number, digits[i]) else {
-            return no_number();
-        };
-        number = more;
-        i += 1;
+    for b in digits {
+        number = text::feed(number, *b)?;
     }
-    Given { number, fault: 0 }
+    Ok(number)
 }
 
 // Writes the words to a new file beside the one that an argument names, and gives that its name once it is whole.
 // Where there is no such argument, nothing is to be kept.
-pub fn keep(rt: &(impl Env + Files), argument: usize, words: &[u64]) -> u64
-    ensures { result ≤ 10 }
+pub fn keep(rt: &(impl Env + Files), argument: usize, words: &[u64]) -> Result<(), Fault>
+    ensures { IfErr result (λ e. (e ≡ Fault.NoArgument) ⊎ (e ≡ Fault.NameTaken) ⊎ (e ≡ Fault.NotWritten)) }
 {
-    let mut path = argument_space();
+    let mut path = text::zeros::<u8, LONGEST_NAME>();
     match rt.arg(argument, &mut path) {
-        Ok(n) => keep_at(rt, &path[0..n], words),
-        Err(FillError::NotPresent) => 0,
-        Err(FillError::TooLong) => NO_ARGUMENT,
+        Ok(n) => keep_at(rt, &path[..n], words),
+        Err(FillError::NotPresent) => Ok(()),
+        Err(FillError::TooLong) => Err(Fault::NoArgument),
     }
 }
 
-fn keep_at(rt: &impl Files, path: &[u8], words: &[u64]) -> u64
-    ensures { result ≤ 10 }
+fn keep_at(rt: &impl Files, path: &[u8], words: &[u64]) -> Result<(), Fault>
+    ensures { IfErr result (λ e. (e ≡ Fault.NoArgument) ⊎ (e ≡ Fault.NameTaken) ⊎ (e ≡ Fault.NotWritten)) }
 {
-    if path.len() == 0 {
-        return NO_ARGUMENT;
+    if path.is_empty() {
+        return Err(Fault::NoArgument);
     }
-    let mut beside = argument_space();
-    let b = name_beside(path, &mut beside);
+    let mut beside = text::zeros::<u8, LONGEST_NAME>();
+    let Some(b) = name_beside(path, &mut beside) else {
+        return Err(Fault::NotWritten);
+    };
     // a path of std is text
     let Ok(path) = str::from_utf8(path) else {
-        return NOT_WRITTEN;
+        return Err(Fault::NotWritten);
     };
-    let Ok(beside) = str::from_utf8(&beside[0..b]) else {
-        return NOT_WRITTEN;
+    let Ok(beside) = str::from_utf8(&beside[..b]) else {
+        return Err(Fault::NotWritten);
     };
     replace(rt, path, beside, words)
 }
 
-// Puts the name and `.new` into `name`: how many bytes that is, and 0, which names no file, where they do not fit.
-fn name_beside(path: &[u8], name: &mut [u8]) -> usize
-    requires { 4096 ≤ length name.old }
-    ensures { result ≤ 4096 }
+// Puts the name and `.new` into `name`: how many bytes that is, where they fit.
+fn name_beside(path: &[u8], name: &mut [u8]) -> Option<usize>
+    ensures { IfSome result (λ n. n ≤ length name.old) }
 {
     let n = path.len();
-    if 4092 < n {
-        return 0;
+    if name.len() < 4 || name.len() - 4 < n {
+        return None;
     }
-    name[0..n].copy_from_slice(path);
+    name[..n].copy_from_slice(path);
     name[n..n + 4].copy_from_slice(b".new");
-    n + 4
+    Some(n + 4)
 }
 
-fn replace(rt: &impl Files, path: &str, beside: &str, words: &[u64]) -> u64
-    ensures { result ≤ 10 }
+fn replace(rt: &impl Files, path: &str, beside: &str, words: &[u64]) -> Result<(), Fault>
+    ensures { IfErr result (λ e. (e ≡ Fault.NameTaken) ⊎ (e ≡ Fault.NotWritten)) }
 {
     let made = OpenOptions::new()
         .write(true)
@@ -252,48 +211,39 @@ fn replace(rt: &impl Files, path: &str, beside: &str, words: &[u64]) -> u64
         .open(rt, beside);
     let file = match made {
         Ok(file) => file,
-        Err(e) => return not_made(e.kind()),
+        Err(e) => return Err(not_made(e.kind())),
     };
-    if write(file, words) && fs::rename(rt, beside, path).is_ok() {
-        return 0;
+    if write(file, words).is_ok() && fs::rename(rt, beside, path).is_ok() {
+        return Ok(());
     }
     let _ = fs::remove_file(rt, beside);
-    NOT_WRITTEN
+    Err(Fault::NotWritten)
 }
 
-fn not_made(kind: ErrorKind) -> u64
-    ensures { result ≤ 10 }
+fn not_made(kind: ErrorKind) -> Fault
+    ensures { (result ≡ Fault.NameTaken) ⊎ (result ≡ Fault.NotWritten) }
 {
     match kind {
-        ErrorKind::AlreadyExists => NAME_TAKEN,
-        _ => NOT_WRITTEN,
+        ErrorKind::AlreadyExists => Fault::NameTaken,
+        _ => Fault::NotWritten,
     }
 }
 
 // Writes the words, waits until they are on the disk, and closes the file.
-fn write<F: Write + OpenFile + Drop>(mut file: F, words: &[u64]) -> bool {
-    let mut space = space();
+fn write<F: Write + OpenFile + Drop>(mut file: F, words: &[u64]) -> io::Result<()> {
+    let mut space = text::zeros::<u8, MOST_BYTES>();
     let n = bytes_of(words, &mut space);
-    let is_written = file.write_all(&space[0..n]).is_ok();
-    let is_kept = file.sync_all().is_ok();
-    is_written & is_kept
+    file.write_all(&space[..n])?;
+    file.sync_all()
 }
 
-// Puts the bytes of the words at the start of `out`, as many as it has room for: how many they are.
+// Puts the bytes of the words at the start of `out`, of as many as it has room for: how many bytes they are.
 fn bytes_of(words: &[u64], out: &mut [u8]) -> usize
     ensures { result ≤ length out.old }
 {
-    let mut i = 0;
-    while i < out.len() && i / 8 < words.len() {
-        out[i] = byte(words[i / 8], (i % 8) as u64);
-        i += 1;
+    let n = words.len().min(out.len() / 8);
+    for k in 0..n {
+        out[8 * k..8 * k + 8].copy_from_slice(&words[k].to_le_bytes());
     }
-    i
-}
-
-// Byte k of a word, little end first.
-fn byte(w: u64, k: u64) -> u8
-    requires { k < 8 }
-{
-    ((w >> (8 * k)) % 256) as u8
+    8 * n
 }

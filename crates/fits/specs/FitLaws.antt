@@ -1,5 +1,5 @@
 -- Laws: what it takes for a value to fit its type, word by word.
-use Rattle.std.specs.Prelude.{◌≡◌, Bool, true, false, cond, List, leb, ltb, length, get_or}
+use Rattle.std.specs.Prelude.{◌≡◌, true, false, cond, List, ltb, length, get_or}
 use Rattle.std.proofs.Math.Path.{refl, ap}
 use Rattle.std.proofs.Common.{sym, ◌∙◌}
 use Prim.Native.Nat.{ℕ, zero, suc, ◌+◌, ◌*◌, ◌-◌, ◌≤◌, ◌<◌}
@@ -7,11 +7,13 @@ use native.Mathlib.Omega.{arith}
 use Rattle.std.proofs.Math.Dec.{eqb}
 use borrow.Author.Tests.{lt-ltb, le-ltb}
 use Rattle.words.specs.declared.Value.{Value}
-use Rattle.words.specs.declared.Value.TheVariants.{Null, Intg, Addr}
-use Rattle.words.specs.declared.Decoded.TheVariants.{Is}
-use Rattle.words.specs.declared.Ty.TheVariants.{Void}
-use Rattle.words.specs.Types.{type_of, type_word, is_type}
-use Rattle.words.specs.TypeLaws.{type_word_of, type_class, is_type_lem}
+use Rattle.words.specs.declared.Value.TheVariants.{Addr}
+use Rattle.std.specs.declared.option.Option.{Option}
+use Rattle.std.specs.declared.option.Option.TheVariants.{Some, None}
+use Rattle.std.specs.Prelude.{unwrap_or}
+use Rattle.words.specs.declared.Ty.{Ty}
+use Rattle.words.specs.declared.Ty.TheVariants.{Void, Class}
+use Rattle.words.specs.Types.{type_of, known}
 use Rattle.words.specs.Value.{value_of, addresses}
 use Rattle.words.proofs.ValueLaws.{decode_proper}
 use Rattle.image.specs.Trailer.{class_count, type_count, input_count}
@@ -19,30 +21,14 @@ use Rattle.image.specs.Records.{type_at}
 use Rattle.rules.specs.Trees.{written}
 use Rattle.rules.specs.Program.{Program, program, types_from, input_types}
 use Rattle.rules.specs.Classes.{subtype, has_fields}
-use Rattle.rules.specs.Heap.{Heap, slot_words, heap_of}
+use Rattle.rules.specs.Heap.{slot_words, heap_of}
 use Rattle.rules.specs.Conform.{slot_conforms, conforms}
 use Rattle.rules.specs.Numbers.{fewest_slots, field_type, slot_word_conforms}
 use Rattle.laws.specs.Maps.{get_d_tabulate}
 use Rattle.laws.specs.Heap.{Words, look_free, look_obj, class_known}
 use Rattle.rows.specs.Rows.{row_words, Rows}
-
--- A value by its case.
-module _ (P : Program) (h : Heap) (t : ℕ) where
-  pub conforms_unit : eqb t 0 ≡ conforms P h Value.Unit (type_of t)
-  unfolding conforms type_word
-  conforms_unit = ap (λ (n : ℕ). eqb n 0) (sym (type_word_of t))
-
-  pub conforms_null : leb 3 t ≡ conforms P h Null (type_of t)
-  unfolding conforms subtype
-  conforms_null = ap (leb 3) (sym (type_word_of t))
-
-  pub conforms_bool : (b : Bool) → eqb t 1 ≡ conforms P h (Value.Bool b) (type_of t)
-  unfolding conforms type_word
-  conforms_bool b = ap (λ (n : ℕ). eqb n 1) (sym (type_word_of t))
-
-  pub conforms_integer : (i : ℕ) → eqb t 2 ≡ conforms P h (Intg i) (type_of t)
-  unfolding conforms type_word
-  conforms_integer i = ap (λ (n : ℕ). eqb n 2) (sym (type_word_of t))
+use Rattle.heap.specs.Slots.{class_at}
+use Rattle.heap.specs.SlotLaws.{class_none, class_some}
 
 -- An address by its slot.
 module _ (P : Program) (classes : ℕ) (hs : List ℕ) (w : Words P classes hs) where
@@ -53,26 +39,32 @@ module _ (P : Program) (classes : ℕ) (hs : List ℕ) (w : Words P classes hs) 
       go zero e = omega arith
       go (suc c) e = class_known P classes hs w a c e
 
-  pub class_type : (a first : ℕ) → first ≡ get_or hs (slot_words * a) 0 → (first ≡ 0 → ⊥) → is_type (4 + (first - 1)) classes ≡ true
-  class_type a first e n =
-      let k = slot_known a (λ z. n (e ∙ z)) in
-      is_type_lem (4 + (first - 1)) classes ∙ lt-ltb (4 + (first - 1)) (4 + classes) (omega arith)
+  pub class_in : (a c : ℕ) → class_at hs a ≡ Some c → c < classes
+  class_in a c e = class_known P classes hs w a c (class_some hs a c e)
 
-  pub conforms_free : (a first t : ℕ) → first ≡ get_or hs (slot_words * a) 0 → first ≡ 0 → false ≡ conforms P (heap_of P hs) (Addr a) (type_of t)
-  unfolding conforms slot_conforms
-  conforms_free a first t e z = rw (look_free P hs w.whole a (sym e ∙ z))
+  pub class_type : (a c : ℕ) → class_at hs a ≡ Some c → known (Class c) classes ≡ true
+  class_type a c e = lt-ltb c classes (class_in a c e)
 
-  pub conforms_object : (a first t : ℕ) → first ≡ get_or hs (slot_words * a) 0 → (first ≡ 0 → ⊥)
-      → subtype P (type_of (4 + (first - 1))) (type_of t) ≡ conforms P (heap_of P hs) (Addr a) (type_of t)
+  pub conforms_free : (a : ℕ) (t : Ty) → class_at hs a ≡ None → false ≡ conforms P (heap_of P hs) (Addr a) t
   unfolding conforms slot_conforms
-  conforms_object a zero t e n = absurd (n refl)
-  conforms_object a (suc c) t e n =
-      let k : 4 + (suc c - 1) - 4 ≡ c = omega arith in
-      rw (look_obj P hs w.whole a c (sym e), type_class (4 + (suc c - 1)) (omega arith), k)
+  conforms_free a t e = rw (look_free P hs w.whole a (class_none hs a e))
+
+  pub conforms_object : (a c : ℕ) (t : Ty) → class_at hs a ≡ Some c → subtype P (Class c) t ≡ conforms P (heap_of P hs) (Addr a) t
+  unfolding conforms slot_conforms
+  conforms_object a c t e = rw (look_obj P hs w.whole a c (class_some hs a c e))
+
+-- the value that is written is the word's, or Unit where it stands for none
+pub written_or : (o : Option Value) → unwrap_or o Value.Unit ≡ written o
+written_or None = refl
+written_or (Some v) = refl
 
 -- the value of an address is one
-pub address_small : (w a : ℕ) (v : Value) → value_of w ≡ Is v → v ≡ Addr a → a < addresses
-address_small w a v e q = decode_proper w (Addr a) (e ∙ ap Is q)
+pub address_small : (w a : ℕ) → unwrap_or (value_of w) Value.Unit ≡ Addr a → a < addresses
+address_small w a q = go (value_of w) refl q
+  where
+    go : (o : Option Value) → value_of w ≡ o → unwrap_or o Value.Unit ≡ Addr a → a < addresses
+    go None e q = absurd (cc)
+    go (Some v) e q = decode_proper w (Addr a) (e ∙ ap Some q)
 
 -- A word of a slot by cases.
 module _ (P : Program) (hs : List ℕ) where

@@ -3,55 +3,19 @@
 
 ghost use Rattle.std.specs.Prelude.{◌≡◌, true, cond, suc, ◌<◌, eqb, ltb, length};
 ghost use Rattle.order.specs.Rules.{first_place};
-ghost use Rattle.order.specs.declared.Found.TheVariants.{Nowhere};
 ghost use Rattle.words.specs.declared.Value.TheVariants.{Addr};
 ghost use Rattle.words.specs.Value.{value_of, addresses};
-ghost use Rattle.words.specs.Types.{type_of};
 ghost use Rattle.image.specs.Trailer.{class_count, input_count};
-ghost use Rattle.image.specs.Layout.{Good};
 ghost use Rattle.rules.specs.Trees.{written};
 ghost use Rattle.rules.specs.Program.{program};
 ghost use Rattle.rules.specs.Heap.{heap_of};
 ghost use Rattle.rules.specs.Conform.{conforms};
 ghost use Rattle.rules.specs.Numbers.{fewest_slots, heap_rule, input_type_rule};
 ghost use Rattle.laws.specs.Heap.{Words};
-ghost use Rattle.rows.specs.Rows.{Rows};
 
 use heap::{FEWEST_SLOTS, SLOT_WORDS};
-use image::Layout;
-use order::Found;
-use rows::ROW_WORDS;
-use words::{BOOLEAN, Decoded, FIRST_CLASS, INTEGER, NULL_TYPE, VOID, Value};
-
-// An address conforms to a class when its slot holds an object of it or of a class below it.
-fn address_conforms(ws: &[u32], l: Layout, heap: &[u64], a: u32, t: u32) -> bool
-    requires { Good ws.now l × Words (program ws.now) (class_count ws.now) heap.now × (a < addresses) }
-    ensures { result ≡ conforms (program ws.now) (heap_of (program ws.now) heap.now) (Addr a) (type_of t) }
-{
-    let first = heap::slot_class(heap, a as usize);
-    if first == 0 {
-        return false;
-    }
-    let c = (first - 1) as u32;
-    classes::is_subtype(ws, l, FIRST_CLASS + c, t)
-}
-
-// Whether the value of a word conforms to the type of a type word.
-fn value_conforms(ws: &[u32], l: Layout, heap: &[u64], w: u64, t: u32) -> bool
-    requires { Good ws.now l × Words (program ws.now) (class_count ws.now) heap.now }
-    ensures { result ≡ conforms (program ws.now) (heap_of (program ws.now) heap.now) (written (value_of w)) (type_of t) }
-{
-    let Decoded::Is(v) = words::value_of(w) else {
-        return t == VOID;
-    };
-    match v {
-        Value::Unit => t == VOID,
-        Value::Null => NULL_TYPE <= t,
-        Value::Bool(_) => t == BOOLEAN,
-        Value::Intg(_) => t == INTEGER,
-        Value::Addr(a) => address_conforms(ws, l, heap, a, t),
-    }
-}
+use rows::{ROW_WORDS, Table};
+use words::{Ty, Value};
 
 // A slot of the system's holds its class and no other: slot a holds class a + 1, so its word is a + 2.
 fn system_slot_holds(a: usize, first: u64) -> bool
@@ -64,63 +28,89 @@ fn system_slot_holds(a: usize, first: u64) -> bool
     }
 }
 
-// 17: word i. The system's slots hold their classes, and each field of an object conforms to its type.
-fn heap_value_holds(
-    ws: &[u32],
-    l: Layout,
-    counts: &[usize],
-    types: &[u32],
-    heap: &[u64],
-    i: usize,
-) -> bool
-    requires { Good ws.now l × Rows ws.now counts.now types.now × Words (program ws.now) (class_count ws.now) heap.now × (i < length heap.now) }
-    ensures { result ≡ (heap_rule ws.now heap.now).holds i }
-{
-    let a = i / SLOT_WORDS;
-    let k = i % SLOT_WORDS;
-    let first = heap[SLOT_WORDS * a];
-    if k == 0 {
-        return system_slot_holds(a, first);
-    }
-    if first == 0 {
-        return true;
-    }
-    let c = (first - 1) as usize;
-    if k - 1 < counts[c] {
-        let t = types[ROW_WORDS * c + (k - 1)];
-        value_conforms(ws, l, heap, heap[i], t)
-    } else {
-        true
-    }
+// A heap whose words 14 and 15 accept, with the table of its image.
+#[derive(Clone, Copy)]
+pub struct Heap<'a> {
+    pub table: Table<'a>,
+    pub words: &'a [u64],
+    ghost sound: { Words (program table.image.words.now) (class_count table.image.words.now) words.now },
 }
 
-// 17: the first heap word that does not conform.
-pub fn heap_place(ws: &[u32], l: Layout, counts: &[usize], types: &[u32], heap: &[u64]) -> Found
-    requires { Good ws.now l × Rows ws.now counts.now types.now × Words (program ws.now) (class_count ws.now) heap.now }
-    ensures { result ≡ first_place (heap_rule ws.now heap.now) }
-{
-    let mut i = 0;
-    while i < heap.len() {
-        if !heap_value_holds(ws, l, counts, types, heap, i) {
-            return Found::At(i);
-        }
-        i += 1;
+impl Heap<'_> {
+    // An address conforms to a class when its slot holds an object of it or of a class below it.
+    fn address_conforms(&self, a: u32, t: Ty) -> bool
+        requires { a < addresses }
+        ensures { result ≡ conforms (program self.now.table.image.words.now) (heap_of (program self.now.table.image.words.now) self.now.words.now) (Addr a) t }
+    {
+        let Some(c) = heap::class_at(self.words, a as usize) else {
+            return false;
+        };
+        classes::is_subtype(&self.table.image, Ty::Class(c as u32), t)
     }
-    Found::Nowhere
-}
 
-// 18: the first input that does not conform. Main's inputs take the last type words.
-pub fn input_type_place(ws: &[u32], l: Layout, heap: &[u64], inputs: &[u64]) -> Found
-    requires { Good ws.now l × Words (program ws.now) (class_count ws.now) heap.now × (length inputs.now ≡ input_count ws.now) }
-    ensures { result ≡ first_place (input_type_rule ws.now heap.now inputs.now) }
-{
-    let mut i = 0;
-    while i < inputs.len() {
-        let t = image::type_word(ws, l, l.type_count - l.inputs + i);
-        if !value_conforms(ws, l, heap, inputs[i], t) {
-            return Found::At(i);
+    // Whether the value of a word conforms to a type.
+    #[tactic(auto, using(crate::specs::FitLaws::address_small, crate::specs::FitLaws::written_or), unfolding(rules::specs::Conform::conforms))]
+    fn value_conforms(&self, w: u64, t: Ty) -> bool
+        ensures { result ≡ conforms (program self.now.table.image.words.now) (heap_of (program self.now.table.image.words.now) self.now.words.now) (written (value_of w)) t }
+    {
+        match words::value_of(w).unwrap_or(Value::Unit) {
+            Value::Unit => classes::same_type(t, Ty::Void),
+            Value::Null => classes::is_subtype(&self.table.image, Ty::NT, t),
+            Value::Bool(_) => classes::same_type(t, Ty::Boolean),
+            Value::Intg(_) => classes::same_type(t, Ty::Integer),
+            Value::Addr(a) => self.address_conforms(a, t),
         }
-        i += 1;
     }
-    Found::Nowhere
+
+    // 17: word i. The system's slots hold their classes, and each field of an object conforms to its type.
+    #[tactic(auto, using(crate::specs::FitLaws::value_first, crate::specs::FitLaws::value_free), unfolding(rules::specs::Numbers::heap_rule))]
+    fn word_holds(&self, i: usize) -> bool
+        requires { i < length self.now.words.now }
+        ensures { result ≡ (heap_rule self.now.table.image.words.now self.now.words.now).holds i }
+    {
+        let a = i / SLOT_WORDS;
+        let k = i % SLOT_WORDS;
+        let first = self.words[SLOT_WORDS * a];
+        if k == 0 {
+            return system_slot_holds(a, first);
+        }
+        if first == 0 {
+            return true;
+        }
+        let c = (first - 1) as usize;
+        if k - 1 < self.table.counts[c] {
+            let t = words::type_of(self.table.types[ROW_WORDS * c + (k - 1)]);
+            self.value_conforms(self.words[i], t)
+        } else {
+            true
+        }
+    }
+
+    // 17: the first heap word that does not conform.
+    #[tactic(auto, unfolding(order::specs::Rules::first_place, rules::specs::Numbers::heap_rule))]
+    pub fn word_place(&self) -> Option<usize>
+        ensures { result ≡ first_place (heap_rule self.now.table.image.words.now self.now.words.now) }
+    {
+        order::first_broken(self.words.len(), |i| self.word_holds(i))
+    }
+
+    // 18: input i. Main's inputs take the last type words.
+    #[tactic(auto, using(crate::specs::FitLaws::input_type), unfolding(rules::specs::Numbers::input_type_rule))]
+    fn input_holds(&self, inputs: &[u64], i: usize) -> bool
+        requires { (length inputs.now ≡ input_count self.now.table.image.words.now) × (i < length inputs.now) }
+        ensures { result ≡ (input_type_rule self.now.table.image.words.now self.now.words.now inputs.now).holds i }
+    {
+        let image = &self.table.image;
+        let t = words::type_of(image.type_word(image.layout.type_count - image.layout.inputs + i));
+        self.value_conforms(inputs[i], t)
+    }
+
+    // 18: the first input that does not conform.
+    #[tactic(auto, unfolding(order::specs::Rules::first_place, rules::specs::Numbers::input_type_rule))]
+    pub fn input_place(&self, inputs: &[u64]) -> Option<usize>
+        requires { length inputs.now ≡ input_count self.now.table.image.words.now }
+        ensures { result ≡ first_place (input_type_rule self.now.table.image.words.now self.now.words.now inputs.now) }
+    {
+        order::first_broken(inputs.len(), |i| self.input_holds(inputs, i))
+    }
 }

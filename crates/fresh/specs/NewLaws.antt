@@ -8,7 +8,7 @@ use native.Mathlib.Omega.{arith}
 use Rattle.std.proofs.Math.Decide.{ℕ_discrete}
 use Rattle.std.proofs.Math.ListN.{get_or, length-set}
 use Rattle.std.proofs.Math.Seq.{get_or-set_same}
-use Rattle.order.specs.declared.Found.TheVariants.{At, Nowhere}
+use Rattle.std.specs.declared.option.Option.TheVariants.{Some, None}
 use Rattle.order.specs.Rules.{scan}
 use Rattle.words.specs.declared.Value.TheVariants.{Addr}
 use Rattle.image.specs.Trailer.{node_count}
@@ -32,12 +32,12 @@ use Rattle.room.specs.Nodes.{node_goes}
 
 -- what the search from there finds
 module _ (ws hs : List ℕ) (from : ℕ) (ok : HeapOk ws hs from) (c : ℕ) where
-  pub new_opens : (a : ℕ) → At a ≡ scan (taken_at hs) (length hs / slot_words - from) from → Opens ws hs c from a
-  new_opens a e = opened ws hs ok.words c from ok.low ok.taken ok.size (At a) e
+  pub new_opens : (a : ℕ) → Some a ≡ scan (taken_at hs) (length hs / slot_words - from) from → Opens ws hs c from a
+  new_opens a e = opened ws hs ok.words c from ok.low ok.taken ok.size (Some a) e
 
-  pub new_full : Nowhere ≡ scan (taken_at hs) (length hs / slot_words - from) from
+  pub new_full : None ≡ scan (taken_at hs) (length hs / slot_words - from) from
       → new_redex (program ws) (heap_of (program ws) hs) c (lowest_free (heap_of (program ws) hs)) ≡ raises out_of_memory
-  new_full e = opened ws hs ok.words c from ok.low ok.taken ok.size Nowhere e
+  new_full e = opened ws hs ok.words c from ok.low ok.taken ok.size None e
 
 -- A write to the word of New's search leaves variables and frames as they were.
 module _ (ws room : List ℕ) (w : ℕ) where

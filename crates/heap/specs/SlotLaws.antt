@@ -3,7 +3,7 @@ use Rattle.std.specs.Prelude.{◌≡◌, refl, Bool, true, false, List, ◌⊎�
 use Rattle.std.proofs.Common.{sym, ◌∙◌, ap, inl, inr, arith, eq-eqb, ne_eqb}
 use Rattle.std.proofs.Math.ListN.{get_or-eq_default}
 use Rattle.order.specs.Rules.{scan}
-use Rattle.order.specs.declared.Found.TheVariants.{At, Nowhere}
+use Rattle.std.specs.declared.option.Option.TheVariants.{Some, None}
 use Rattle.words.specs.Types.{type_of}
 use Rattle.words.specs.Value.{word_of}
 use Rattle.rules.specs.Program.{Program}
@@ -11,7 +11,7 @@ use Rattle.rules.specs.Heap.{default, slot_words, heap_of, lowest_free}
 use Rattle.rules.specs.Numbers.{most_fields_above}
 use Rattle.classes.specs.Search.{lt_or_ge}
 use Rattle.laws.specs.Heap.{place, Words, length_heap, heap_fits, words_heap, lowest_free_words}
-use Rattle.heap.specs.Slots.{taken_at}
+use Rattle.heap.specs.Slots.{class_named, class_at, taken_at}
 
 -- A scan that has come from `from` to a: what is left gives the answer.
 pub record Since (p : ℕ → Bool) (n from a : ℕ) : Type 0 where
@@ -29,18 +29,18 @@ since_on {p} {n} {from} {a} s h e =
     let w : scan p (n - a) a ≡ scan p (n - (a + 1)) (a + 1) = rw (q, e, z) in
     record { low = omega (arith, s.low); same = sym w ∙ s.same }
 
-pub since_hit : {p : ℕ → Bool} {n from a : ℕ} → Since p n from a → a < n → p a ≡ false → At a ≡ scan p (n - from) from
+pub since_hit : {p : ℕ → Bool} {n from a : ℕ} → Since p n from a → a < n → p a ≡ false → Some a ≡ scan p (n - from) from
 unfolding scan
 since_hit {p} {n} {from} {a} s h e =
     let q : n - a ≡ suc (n - (a + 1)) = omega arith in
-    let w : scan p (n - a) a ≡ At a = rw (q, e) in
+    let w : scan p (n - a) a ≡ Some a = rw (q, e) in
     sym w ∙ s.same
 
-pub since_none : {p : ℕ → Bool} {n from a : ℕ} → Since p n from a → n ≤ a → Nowhere ≡ scan p (n - from) from
+pub since_none : {p : ℕ → Bool} {n from a : ℕ} → Since p n from a → n ≤ a → None ≡ scan p (n - from) from
 unfolding scan
 since_none {p} {n} {from} {a} s h =
     let q : n - a ≡ 0 = omega arith in
-    let w : scan p (n - a) a ≡ Nowhere = rw q in
+    let w : scan p (n - a) a ≡ None = rw q in
     sym w ∙ s.same
 
 pub free_at : (hs : List ℕ) (a : ℕ) → get_or hs (slot_words * a) 0 ≡ 0 → taken_at hs a ≡ false
@@ -50,6 +50,32 @@ free_at hs a e = rw (eq-eqb _ _ e)
 pub taken_at_lem : (hs : List ℕ) (a : ℕ) → (get_or hs (slot_words * a) 0 ≡ 0 → ⊥) → taken_at hs a ≡ true
 unfolding taken_at
 taken_at_lem hs a e = rw (ne_eqb _ _ e)
+
+-- A slot's class, by its first word.
+pub named_none : (first : ℕ) → first ≡ 0 → None ≡ class_named first
+unfolding class_named
+named_none first e = rw e
+
+pub named_some : (first : ℕ) → (first ≡ 0 → ⊥) → Some (first - 1) ≡ class_named first
+unfolding class_named
+named_some zero n = absurd (n refl)
+named_some (suc c) n = let z : suc c - 1 ≡ c = omega arith in rw z
+
+none_named : (first : ℕ) → class_named first ≡ None → first ≡ 0
+unfolding class_named
+none_named zero e = refl
+none_named (suc c) e = absurd (let z : ◌≡◌ {A = ℕ} 0 1 = cc in omega arith)
+
+some_named : (first c : ℕ) → class_named first ≡ Some c → first ≡ suc c
+unfolding class_named
+some_named zero c e = absurd (let z : ◌≡◌ {A = ℕ} 0 1 = cc in omega arith)
+some_named (suc d) c e = let z : d ≡ c = cc in rw z
+
+pub class_none : (hs : List ℕ) (a : ℕ) → class_at hs a ≡ None → get_or hs (slot_words * a) 0 ≡ 0
+class_none hs a e = none_named _ e
+
+pub class_some : (hs : List ℕ) (a c : ℕ) → class_at hs a ≡ Some c → get_or hs (slot_words * a) 0 ≡ suc c
+class_some hs a c e = some_named _ c e
 
 -- where the slots below the start are taken, the lowest from there is the lowest of all
 skipped : (p : ℕ → Bool) (n k i : ℕ) → k ≤ n → ((a : ℕ) → i ≤ a → a < i + k → p a ≡ true) → scan p (n - k) (i + k) ≡ scan p n i

@@ -1,16 +1,21 @@
 -- Laws of 14, 15 and 16: a scan whose earlier places all held, a slot's word by cases, and the inputs.
-use Rattle.std.specs.Prelude.{◌≡◌, refl, Bool, true, false, cond, List, eqb, leb, ltb, length, get_or}
+use Rattle.std.specs.Prelude.{◌≡◌, refl, Bool, true, false, cond, ◌&&◌, List, eqb, leb, ltb, length, get_or, is_some}
 use Rattle.std.proofs.Common.{sym, ◌∙◌, ⊎_elim, leb-true, le-leb, eq-eqb, ne_eqb, eqb-true, lt-ltb, le-ltb}
-use Prim.Native.Nat.{ℕ, zero, suc, ◌+◌, ◌*◌, ◌-◌, ◌/◌, ◌%◌, ◌≤◌, ◌<◌, max}
+use Prim.Native.Nat.{ℕ, zero, suc, ◌+◌, ◌*◌, ◌-◌, ◌/◌, ◌%◌, ◌≤◌, ◌<◌}
 use native.Mathlib.Omega.{arith}
 use Rattle.std.specs.Int.Bits.{bit_or, or_add_and}
 use Rattle.std.proofs.lemmas.Nat.{and_le_l, and_le_r}
 use Rattle.std.proofs.lemmas.Bool.{eqb-false}
+use Rattle.std.proofs.lemmas.List.{get_or-take, get_or-drop}
+use Rattle.std.proofs.lemmas.List.Sums.{AllPass-from_list_all}
+use Rattle.std.proofs.Math.ListN.{take, drop, length-take, length-drop}
+use Rattle.std.proofs.lemmas.List.Folds.{list_all_more}
+use Rattle.std.specs.List.{list_all}
 use Rattle.order.specs.Rules.{first_place}
-use Rattle.order.specs.Scan.{Still, start, on, hit, none}
+use Rattle.order.specs.Scan.{start, on}
 use Rattle.order.specs.Lowest.{held}
-use Rattle.order.specs.declared.Found.TheVariants.{At, Nowhere}
-use Rattle.words.specs.Value.{value_of, is_is}
+use Rattle.std.specs.declared.option.Option.TheVariants.{None}
+use Rattle.words.specs.Value.{value_of}
 use Rattle.image.specs.Trailer.{class_count, input_count}
 use Rattle.rules.specs.Program.{Program, program}
 use Rattle.rules.specs.Classes.{has_fields}
@@ -19,10 +24,6 @@ use Rattle.rules.specs.Numbers.{most_fields_above, slot_word_holds, slot_first, 
 use Rattle.classes.specs.Search.{lt_or_ge}
 use Rattle.rows.specs.Rows.{Sizes}
 use Rattle.heap.specs.Slots.{ZerosAt, ValuesAt, SlotHolds, Clean}
-
--- Nothing is said of a test that fails.
-pub unsaid : {A : Type 0} → false ≡ true → A
-unsaid e = absurd (let z : ◌≡◌ {A = ℕ} 0 1 = cc in omega arith)
 
 -- What holds below k, and at k, holds below the next.
 each_on : {P : ℕ → Type 0} {k : ℕ} → ((j : ℕ) → j < k → P j) → P k → (j : ℕ) → j < k + 1 → P j
@@ -43,23 +44,33 @@ clean_far {p} {n} {i} (suc m) s h e =
     let y : i + suc m ≡ i + m + 1 = omega arith in
     rw y (clean_on (clean_far m s (omega arith) (λ k l. e k (omega arith))) (omega arith) (e m (omega arith)))
 
--- Words that were joined are all 0 where what they came to is.
-or_none : (a b : ℕ) → bit_or a b ≡ 0 → (a ≡ 0) × (b ≡ 0)
-or_none a b e =
-    let s = or_add_and a b in
-    let l = and_le_l a b in
-    let r = and_le_r a b in (
-      omega (arith, e, s, l, r),
-      omega (arith, e, s, l, r),
-    )
+-- Words that were joined come to 0 where each is 0.
+or_zero : (a b : ℕ) → eqb (bit_or a b) 0 ≡ (eqb a 0 && eqb b 0)
+or_zero a b = go (eqb a 0) (eqb b 0) refl refl
+  where
+    go : (t u : Bool) → eqb a 0 ≡ t → eqb b 0 ≡ u → eqb (bit_or a b) 0 ≡ (t && u)
+    go true true d e = eq-eqb (bit_or a b) 0 (omega (arith, or_add_and a b, eqb-true a 0 d, eqb-true b 0 e))
+    go true false d e = ne_eqb (bit_or a b) 0 (λ z. eqb-false b 0 e (omega (arith, or_add_and a b, and_le_l a b, z)))
+    go false u d e = ne_eqb (bit_or a b) 0 (λ z. eqb-false a 0 d (omega (arith, or_add_and a b, and_le_r a b, z)))
 
-pub zeros_on : (hs : List ℕ) (i k d : ℕ) → (d ≡ 0 → ZerosAt hs i k) → bit_or d (get_or hs (i + k) 0) ≡ 0 → ZerosAt hs i (k + 1)
-zeros_on hs i k d z e =
-    let b = or_none d (get_or hs (i + k) 0) e in
-    each_on {P = λ (j : ℕ). get_or hs (i + j) 0 ≡ 0} (z b.0) b.1
+pub zeros_on : (ws : List ℕ) (k d : ℕ) → k < length ws → eqb d 0 ≡ list_all (λ w. eqb w 0) (take k ws)
+    → eqb (bit_or d (get_or ws k 0)) 0 ≡ list_all (λ w. eqb w 0) (take (k + 1) ws)
+zeros_on ws k d h e = rw (list_all_more (λ w. eqb w 0) ws k 0 h, or_zero d (get_or ws k 0), e)
 
-pub values_on : (hs : List ℕ) (i k : ℕ) → ValuesAt hs i k → is_is (value_of (get_or hs (i + k) 0)) ≡ true → ValuesAt hs i (k + 1)
-values_on hs i k z e = each_on {P = λ (j : ℕ). is_is (value_of (get_or hs (i + j) 0)) ≡ true} z e
+-- What is tested of all words of a part is so of the heap's words there.
+part_all : (p : ℕ → Bool) (hs : List ℕ) (a b : ℕ) → b ≤ length hs → list_all p (take (b - a) (drop a hs)) ≡ true
+    → (k : ℕ) → k < b - a → p (get_or hs (a + k) 0) ≡ true
+part_all p hs a b h e k l =
+    let s : k < length (take (b - a) (drop a hs)) = rw (length-take, length-drop) (omega arith) in
+    rw (get_or-take (b - a) (drop a hs) k 0 l, get_or-drop a hs k 0) at (AllPass-from_list_all p (take (b - a) (drop a hs)) e k 0 s)
+
+pub zeros_part : (hs : List ℕ) (a b n : ℕ) → b ≡ a + n → b ≤ length hs → list_all (λ w. eqb w 0) (take (b - a) (drop a hs)) ≡ true
+    → ZerosAt hs a n
+zeros_part hs a b n q h e k l = eqb-true _ 0 (part_all (λ w. eqb w 0) hs a b h e k (omega arith))
+
+pub values_part : (hs : List ℕ) (a b n : ℕ) → b ≡ a + n → b ≤ length hs
+    → list_all (λ w. is_some (value_of w)) (take (b - a) (drop a hs)) ≡ true → ValuesAt hs a n
+values_part hs a b n q h e k l = part_all (λ w. is_some (value_of w)) hs a b h e k (omega arith)
 
 -- A word by cases.
 pub word_first : (P : Program) (classes first k word : ℕ) → k ≡ 0 → leb first classes ≡ slot_word_holds P classes first k word
@@ -73,7 +84,7 @@ word_free P classes zero (suc j) word n e = refl
 word_free P classes (suc c) k word n e = absurd (omega arith)
 
 pub word_value : (P : Program) (classes first k word : ℕ) → (k ≡ 0 → ⊥) → (first ≡ 0 → ⊥) → k - 1 < length (has_fields P (first - 1))
-    → is_is (value_of word) ≡ slot_word_holds P classes first k word
+    → is_some (value_of word) ≡ slot_word_holds P classes first k word
 unfolding slot_word_holds
 word_value P classes first zero word n m h = absurd (n refl)
 word_value P classes zero (suc j) word n m h = absurd (m refl)
@@ -124,7 +135,7 @@ module _ (ws hs : List ℕ) (i : ℕ) (e : i % slot_words ≡ 0) where
       value : j < n → slot_word_holds (program ws) (class_count ws) (get_or hs i 0) (suc j) (get_or hs (i + suc j) 0) ≡ true
       value l =
           let y : i + suc j ≡ i + 1 + j = omega arith in
-          let b : is_is (value_of (get_or hs (i + suc j) 0)) ≡ true = rw y (v j l) in
+          let b : is_some (value_of (get_or hs (i + suc j) 0)) ≡ true = rw y (v j l) in
           sym (word_value (program ws) (class_count ws) (get_or hs i 0) (suc j) (get_or hs (i + suc j) 0) later f (omega (arith, m))) ∙ b
 
       rest : n ≤ j → slot_word_holds (program ws) (class_count ws) (get_or hs i 0) (suc j) (get_or hs (i + suc j) 0) ≡ true
@@ -154,41 +165,26 @@ pub count_few : {ws counts : List ℕ} (first : ℕ) → Sizes ws counts → fir
     → get_or counts (first - 1) 0 ≤ most_fields_above
 count_few first s h n = rw (class_count_lem first s h n) (s.few (first - 1) (omega arith))
 
--- Inputs: below main's count each that is there is a value,
-pub input_below : (count : ℕ) (is : List ℕ) (i : ℕ) → i < count
-    → cond (ltb i (length is)) (is_is (value_of (get_or is i 0))) true ≡ input_holds count is i
-unfolding input_holds
-input_below count is i h = rw (ne_eqb i count (λ e. omega arith))
+-- Inputs: at main's count 16 asks that there are as many, and elsewhere that each that is there is a value.
+module _ (count : ℕ) (is : List ℕ) (i : ℕ) where
+  pub input_last : i ≡ count → eqb (length is) count ≡ input_holds count is i
+  unfolding input_holds
+  input_last e = go (eqb (length is) count) refl
+    where
+      go : (t : Bool) → eqb (length is) count ≡ t → t ≡ (cond (eqb i count) t true && cond (ltb i (length is)) (is_some (value_of (get_or is i 0))) true)
+      go true q = rw (eq-eqb i count e, le-ltb i (length is) (omega (arith, eqb-true _ _ q)))
+      go false q = rw (eq-eqb i count e)
 
--- and at the count, that there are as many.
-pub input_right : (count : ℕ) (is : List ℕ) → length is ≡ count → input_holds count is count ≡ true
-unfolding input_holds
-input_right count is e = rw (eq-eqb count count refl, eq-eqb (length is) count e, le-ltb count (length is) (omega arith))
+  pub input_value : (i ≡ count → ⊥) → i < length is → is_some (value_of (get_or is i 0)) ≡ input_holds count is i
+  unfolding input_holds
+  input_value n h = rw (ne_eqb i count n, lt-ltb i (length is) h)
 
-pub input_wrong : (count : ℕ) (is : List ℕ) → (length is ≡ count → ⊥) → input_holds count is count ≡ false
-unfolding input_holds
-input_wrong count is e = rw (eq-eqb count count refl, ne_eqb (length is) count e)
-
-module _ (ws is : List ℕ) {i : ℕ} (e : i ≡ input_count ws)
-    (s : Still (input_holds (input_count ws) is) (suc (max (length is) (input_count ws))) i)
-  where
-    pub inputs_right : length is ≡ input_count ws → Nowhere ≡ first_place (input_rule ws is)
-    unfolding first_place input_rule
-    inputs_right h =
-        let m : max (length is) (input_count ws) ≡ i = omega arith in
-        none (on s (omega arith) (rw e (input_right (input_count ws) is h))) (omega arith)
-
-    pub inputs_wrong : (length is ≡ input_count ws → ⊥) → At i ≡ first_place (input_rule ws is)
-    unfolding first_place input_rule
-    inputs_wrong h = hit s (omega arith) (rw e (input_wrong (input_count ws) is h))
+  pub input_beyond : (i ≡ count → ⊥) → length is ≤ i → true ≡ input_holds count is i
+  unfolding input_holds
+  input_beyond n h = rw (ne_eqb i count n, le-ltb i (length is) h)
 
 -- where 16 holds there are as many inputs as main takes
-pub inputs_count : (ws is : List ℕ) → first_place (input_rule ws is) ≡ Nowhere → length is ≡ input_count ws
+pub inputs_count : (ws is : List ℕ) → first_place (input_rule ws is) ≡ None → length is ≡ input_count ws
 unfolding input_rule
-inputs_count ws is h = go (eqb (length is) (input_count ws)) refl (held (input_rule ws is) h (input_count ws) (omega arith))
-  where
-    go : (t : Bool) → eqb (length is) (input_count ws) ≡ t → input_holds (input_count ws) is (input_count ws) ≡ true → length is ≡ input_count ws
-    go true e q = eqb-true _ _ e
-    go false e q =
-        let f = input_wrong (input_count ws) is (eqb-false _ _ e) in
-        absurd (let z : ◌≡◌ {A = ℕ} 0 1 = cc in omega arith)
+inputs_count ws is h =
+    eqb-true _ _ (input_last (input_count ws) is (input_count ws) refl ∙ held (input_rule ws is) h (input_count ws) (omega arith))

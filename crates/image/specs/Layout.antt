@@ -4,8 +4,8 @@ use Rattle.order.specs.Rules.{Rule, accepted}
 use Rattle.order.specs.declared.Answer.{Answer}
 use Rattle.image.specs.declared.Breach.{Breach}
 use Rattle.image.specs.declared.Breach.TheVariants.{Format, Trailer, Ceiling, ClassRecord, FieldRecord, MethodRecord, TypeWord, NodeRecord, Bodies}
-use Rattle.image.specs.declared.Laid.{Laid}
-use Rattle.image.specs.declared.Laid.TheVariants.{Sound, Broken}
+use Rattle.std.specs.declared.result.Result.{Result}
+use Rattle.std.specs.declared.result.Result.TheVariants.{Ok, Err}
 use Rattle.image.specs.declared.Layout.{Layout}
 use Rattle.image.specs.Numbers.{trailer_words, most_classes, most_fields, most_methods, most_type_words, most_nodes, most_inputs}
 use Rattle.image.specs.Trailer.{trailer, class_count, field_count, method_count, type_count, node_count, main_node, input_count, format_holds, trailer_tests, ceiling_tests}
@@ -63,9 +63,9 @@ breach_numbers (TypeWord p) = record { number = 7; place = p }
 breach_numbers (NodeRecord p) = record { number = 8; place = p }
 breach_numbers (Bodies p) = record { number = 9; place = p }
 
-abbrev pub laid_numbers : Laid → Answer
-laid_numbers (Sound l) = accepted
-laid_numbers (Broken b) = breach_numbers b
+abbrev pub laid_numbers : Result Layout Breach → Answer
+laid_numbers (Ok l) = accepted
+laid_numbers (Err b) = breach_numbers b
 
 -- Where the sections stand and how many records each has, as the trailer says. The sums follow from 1 and 2.
 pub record Lay (ws : List ℕ) (l : Layout) : Type 0 where
@@ -109,6 +109,6 @@ pub record Good (ws : List ℕ) (l : Layout) : Type 0 where
   pub bodies : (i : ℕ) → i < suc (method_count ws) → filled_holds ws i ≡ true
 
 -- what an answer brings besides its number and place
-abbrev pub Brings : List ℕ → Laid → Type 0
-Brings ws (Sound l) = Good ws l
-Brings ws (Broken b) = Unit
+abbrev pub Brings : List ℕ → Result Layout Breach → Type 0
+Brings ws (Ok l) = Good ws l
+Brings ws (Err b) = Unit

@@ -4,5 +4,6 @@ pub mod Trailer
 pub mod Records
 pub mod Nodes
 pub mod Layout
+pub mod Views
 -- Laws, which a reader need not believe: the checker does.
 pub mod Laws

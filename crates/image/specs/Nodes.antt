@@ -1,7 +1,7 @@
 -- Node records: kinds, what x and y must be, operands and sizes; and the bodies that fill the table.
 use Rattle.std.specs.Prelude.{Bool, false, cond, ◌&&◌, List, [], ◌∷◌, ℕ, zero, suc, ◌+◌, ◌*◌, ◌-◌, length, get_or, ltb, leb, eqb}
-use Rattle.order.specs.declared.Found.{Found}
-use Rattle.order.specs.declared.Found.TheVariants.{At, Nowhere}
+use Rattle.std.specs.declared.option.Option.{Option}
+use Rattle.std.specs.declared.option.Option.TheVariants.{Some, None}
 use Rattle.words.specs.Types.{is_declared, is_type}
 use Rattle.words.specs.Value.{is_value}
 use Rattle.image.specs.declared.Kind.{Kind}
@@ -77,21 +77,21 @@ operands Unknown y = 0
 
 -- Where the k trees that end just before node e begin, if all of them stand in the table: the last tree ends at e - 1 and
 -- has that node's size, and the one before it ends where it begins.
-unfoldable pub reach : List ℕ → (k e : ℕ) → Found
-reach ws zero e = At e
-reach ws (suc k) zero = Nowhere
+unfoldable pub reach : List ℕ → (k e : ℕ) → Option ℕ
+reach ws zero e = Some e
+reach ws (suc k) zero = None
 reach ws (suc k) (suc e) =
     let r = reach ws k (suc e - node_word ws e 1) in
-    cond (leb (node_word ws e 1) (suc e)) r Nowhere
+    cond (leb (node_word ws e 1) (suc e)) r None
 
 -- a tree from node b to node n has that size
 unfoldable pub spans : (b n size : ℕ) → Bool
 spans b n size = eqb (b + size) (suc n)
 
 -- a node's size is 1 and its operands' sizes, when the operands begin at b
-unfoldable pub size_is : (n size : ℕ) → Found → Bool
-size_is n size (At b) = spans b n size
-size_is n size Nowhere = false
+unfoldable pub size_is : (n size : ℕ) → Option ℕ → Bool
+size_is n size (Some b) = spans b n size
+size_is n size None = false
 
 -- 8
 unfoldable pub node_holds : List ℕ → ℕ → Bool

@@ -1,5 +1,5 @@
 // The image: where its sections stand, its records, and the answers of the layout check.
-// The accessors ask for a layout that fits the image (`Lay`) and promise the word that the definitions name.
+// Words with a layout that fits them are `Sections`, and an `Image` where every rule of the layout holds.
 #![tactic(auto)]
 
 ghost use Rattle.std.specs.Prelude.{◌≡◌, ℕ, suc, ◌+◌, ◌*◌, ◌-◌, ◌≤◌, ◌<◌, length};
@@ -10,6 +10,10 @@ ghost use Rattle.image.specs.Nodes.{node_word, kind_of};
 ghost use Rattle.image.specs.Layout.{Lay, laid_numbers, breach_numbers};
 
 use order::Answer;
+
+mod views;
+
+pub use views::{Image, Sections};
 
 // The numbers of specs/Numbers.antt that code needs, under the same names.
 pub const TRAILER_WORDS: usize = 8;
@@ -39,6 +43,7 @@ pub const VARIABLES: u32 = 64;
 pub const WRITTEN_TAGS: u32 = 4;
 
 // Where each section begins, how many records it has, and the trailer's words 5 and 6. Classes begin at word 0.
+// An image comes from C as one slice of words, so its records stay places in that slice.
 #[derive(Clone, Copy)]
 pub struct Layout {
     pub class_count: usize,
@@ -68,14 +73,8 @@ pub enum Breach {
     Bodies(usize),
 }
 
-// What the layout check answers.
-#[derive(Clone, Copy)]
-pub enum Laid {
-    Sound(Layout),
-    Broken(Breach),
-}
-
 // A node's kind. The numbers 0 to 15 are the kinds in this order; any other number is no kind.
+// `Unknown` is a case, and not None of an Option: above the layout check an Option would have to be opened at each node.
 #[derive(Clone, Copy)]
 pub enum Kind {
     New,
@@ -97,27 +96,30 @@ pub enum Kind {
     Unknown,
 }
 
-pub fn kind_of(k: u32) -> Kind
-    ensures { result ≡ kind_of k }
-{
-    match k {
-        0 => Kind::New,
-        1 => Kind::Cast,
-        2 => Kind::Value,
-        3 => Kind::Var,
-        4 => Kind::Add,
-        5 => Kind::Eq,
-        6 => Kind::Assign,
-        7 => Kind::Get,
-        8 => Kind::Set,
-        9 => Kind::Call,
-        10 => Kind::Block,
-        11 => Kind::Seq,
-        12 => Kind::If,
-        13 => Kind::While,
-        14 => Kind::Throw,
-        15 => Kind::Try,
-        _ => Kind::Unknown,
+impl From<u32> for Kind {
+    ghost from_gives = { λ k result. result ≡ kind_of k };
+
+    #[tactic(auto, using(crate::specs::Laws::no_kind), unfolding(crate::specs::Nodes::kind_of))]
+    fn from(k: u32) -> Kind {
+        match k {
+            0 => Kind::New,
+            1 => Kind::Cast,
+            2 => Kind::Value,
+            3 => Kind::Var,
+            4 => Kind::Add,
+            5 => Kind::Eq,
+            6 => Kind::Assign,
+            7 => Kind::Get,
+            8 => Kind::Set,
+            9 => Kind::Call,
+            10 => Kind::Block,
+            11 => Kind::Seq,
+            12 => Kind::If,
+            13 => Kind::While,
+            14 => Kind::Throw,
+            15 => Kind::Try,
+            _ => Kind::Unknown,
+        }
     }
 }
 
@@ -129,7 +131,8 @@ pub fn trailer_word(ws: &[u32], j: usize) -> usize
     ws[ws.len() - TRAILER_WORDS + j] as usize
 }
 
-// Class c's superclass number.
+// Class c's superclass number. These five ask for a layout that fits the words, and no more.
+#[tactic(auto, using(crate::specs::Laws::begins), unfolding(crate::specs::Records::superclass))]
 pub fn class_word(ws: &[u32], l: Layout, c: usize) -> u32
     requires { Lay ws.now l × (c < l.class_count) }
     ensures { result ≡ superclass ws.now c }
@@ -138,6 +141,7 @@ pub fn class_word(ws: &[u32], l: Layout, c: usize) -> u32
 }
 
 // Word k of field i.
+#[tactic(auto, using(crate::specs::Laws::begins), unfolding(crate::specs::Records::field_word))]
 pub fn field_word(ws: &[u32], l: Layout, i: usize, k: usize) -> u32
     requires { Lay ws.now l × (i < l.field_count) × (k < 3) }
     ensures { result ≡ field_word ws.now i k }
@@ -146,6 +150,7 @@ pub fn field_word(ws: &[u32], l: Layout, i: usize, k: usize) -> u32
 }
 
 // Word k of method i.
+#[tactic(auto, using(crate::specs::Laws::begins), unfolding(crate::specs::Records::method_word))]
 pub fn method_word(ws: &[u32], l: Layout, i: usize, k: usize) -> u32
     requires { Lay ws.now l × (i < l.method_count) × (k < 6) }
     ensures { result ≡ method_word ws.now i k }
@@ -154,6 +159,7 @@ pub fn method_word(ws: &[u32], l: Layout, i: usize, k: usize) -> u32
 }
 
 // Type word i.
+#[tactic(auto, using(crate::specs::Laws::begins), unfolding(crate::specs::Records::type_at))]
 pub fn type_word(ws: &[u32], l: Layout, i: usize) -> u32
     requires { Lay ws.now l × (i < l.type_count) }
     ensures { result ≡ type_at ws.now i }
@@ -162,6 +168,7 @@ pub fn type_word(ws: &[u32], l: Layout, i: usize) -> u32
 }
 
 // Word k of node n.
+#[tactic(auto, using(crate::specs::Laws::begins), unfolding(crate::specs::Nodes::node_word))]
 pub fn node_word(ws: &[u32], l: Layout, n: usize, k: usize) -> u32
     requires { Lay ws.now l × (n < l.node_count) × (k < 4) }
     ensures { result ≡ node_word ws.now n k }
@@ -170,58 +177,24 @@ pub fn node_word(ws: &[u32], l: Layout, n: usize, k: usize) -> u32
 }
 
 // The number and place of a breach.
-pub fn breach_answer(b: Breach) -> Answer
-    ensures { result ≡ breach_numbers b }
-{
-    match b {
-        Breach::Format => Answer {
-            number: 1,
-            place: 0,
-        },
-        Breach::Trailer(p) => Answer {
-            number: 2,
-            place: p as u64,
-        },
-        Breach::Ceiling(p) => Answer {
-            number: 3,
-            place: p as u64,
-        },
-        Breach::ClassRecord(p) => Answer {
-            number: 4,
-            place: p as u64,
-        },
-        Breach::FieldRecord(p) => Answer {
-            number: 5,
-            place: p as u64,
-        },
-        Breach::MethodRecord(p) => Answer {
-            number: 6,
-            place: p as u64,
-        },
-        Breach::TypeWord(p) => Answer {
-            number: 7,
-            place: p as u64,
-        },
-        Breach::NodeRecord(p) => Answer {
-            number: 8,
-            place: p as u64,
-        },
-        Breach::Bodies(p) => Answer {
-            number: 9,
-            place: p as u64,
-        },
-    }
-}
+impl From<Breach> for Answer {
+    ghost from_gives = { λ b result. result ≡ breach_numbers b };
 
-// The number and place of a layout check's answer; 0 at 0 where the layout holds.
-pub fn laid_answer(a: Laid) -> Answer
-    ensures { result ≡ laid_numbers a }
-{
-    match a {
-        Laid::Sound(_) => Answer {
-            number: 0,
-            place: 0,
-        },
-        Laid::Broken(b) => breach_answer(b),
+    fn from(b: Breach) -> Answer {
+        let (number, place) = match b {
+            Breach::Format => (1, 0),
+            Breach::Trailer(p) => (2, p),
+            Breach::Ceiling(p) => (3, p),
+            Breach::ClassRecord(p) => (4, p),
+            Breach::FieldRecord(p) => (5, p),
+            Breach::MethodRecord(p) => (6, p),
+            Breach::TypeWord(p) => (7, p),
+            Breach::NodeRecord(p) => (8, p),
+            Breach::Bodies(p) => (9, p),
+        };
+        Answer {
+            number,
+            place: place as u64,
+        }
     }
 }

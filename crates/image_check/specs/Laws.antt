@@ -1,9 +1,9 @@
 -- Laws: rules asked after others.
 use Rattle.std.specs.Prelude.{◌≡◌, refl, false, cond, List, [], ◌∷◌, ◌++◌, ℕ, eqb}
-use Rattle.std.proofs.Common.{ap, ne_eqb}
+use Rattle.std.proofs.Common.{ne_eqb}
 use native.Mathlib.Omega.{arith}
-use Rattle.order.specs.declared.Found.{Found}
-use Rattle.order.specs.declared.Found.TheVariants.{At, Nowhere}
+use Rattle.std.specs.declared.option.Option.{Option}
+use Rattle.std.specs.declared.option.Option.TheVariants.{Some, None}
 use Rattle.order.specs.declared.Answer.{Answer}
 use Rattle.order.specs.Rules.{Rule, first_place, accepted, or_else, answer_of}
 use Rattle.order.specs.Lowest.{Rising}
@@ -23,10 +23,10 @@ unfolding answer_of
 answer_append n [] ss g = refl
 answer_append n (r ∷ rs) ss g = go (first_place r) (answer_append r.number rs ss g.1)
   where
-    go : (f : Found) → answer_of (rs ++ ss) ≡ or_next (answer_of rs) (answer_of ss)
+    go : (f : Option ℕ) → answer_of (rs ++ ss) ≡ or_next (answer_of rs) (answer_of ss)
         → or_else r.number f (answer_of (rs ++ ss)) ≡ or_next (or_else r.number f (answer_of rs)) (answer_of ss)
-    go (At p) e = let h : eqb r.number 0 ≡ false = ne_eqb r.number 0 (λ q. omega (arith, g.0, q)) in rw h
-    go Nowhere e = e
+    go (Some p) e = let h : eqb r.number 0 ≡ false = ne_eqb r.number 0 (λ q. omega (arith, g.0, q)) in rw h
+    go None e = e
 
 -- no breach of the layout has number 0
 breach_first : (b : Breach) (a : Answer) → or_next (breach_numbers b) a ≡ breach_numbers b

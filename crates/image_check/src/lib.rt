@@ -4,16 +4,16 @@
 ghost use Rattle.std.specs.Prelude.{◌≡◌};
 ghost use Rattle.order.specs.Rules.{answer_of};
 ghost use Rattle.rules.specs.Numbers.{check_rules};
-ghost use Rattle.image_check.specs.Answers.{checked_numbers, RulesFrom10};
-ghost use Rattle.image.specs.Layout.{Good};
+ghost use Rattle.image_check.specs.declared.Rejected.TheVariants.{Layout};
+ghost use Rattle.image_check.specs.Answers.{checked_numbers, rejected_numbers, RulesFrom10};
 
-use image::{Breach, Laid, Layout};
-use order::{Answer, Found};
+use image::{Breach, Image};
+use order::Answer;
 
-// What the image check answers. A breach of the layout keeps its own case.
+// Why an image is not let in: these breaches and no others, so each of the three questions has an enum of its own. A breach of the layout
+// keeps its own case.
 #[derive(Clone, Copy)]
-pub enum Checked {
-    Accepted,
+pub enum Rejected {
     Layout(Breach),
     Fields(usize),
     Override(usize),
@@ -21,68 +21,69 @@ pub enum Checked {
     Unset(usize),
 }
 
-// Numbers 10 to 13, in this order, of an image whose layout holds.
-fn check_rules(ws: &[u32], l: Layout) -> Checked
-    requires { Good ws.now l }
-    ensures { checked_numbers result ≡ answer_of (RulesFrom10 ws.now) }
+impl From<Breach> for Rejected {
+    ghost from_gives = { λ b result. result ≡ Layout b };
+
+    fn from(b: Breach) -> Rejected {
+        Rejected::Layout(b)
+    }
+}
+
+// The number and place of a refusal.
+impl From<Rejected> for Answer {
+    ghost from_gives = { λ r result. result ≡ rejected_numbers r };
+
+    fn from(r: Rejected) -> Answer {
+        let (number, place) = match r {
+            Rejected::Layout(b) => return Answer::from(b),
+            Rejected::Fields(p) => (10, p),
+            Rejected::Override(p) => (11, p),
+            Rejected::Untyped(p) => (12, p),
+            Rejected::Unset(p) => (13, p),
+        };
+        Answer {
+            number,
+            place: place as u64,
+        }
+    }
+}
+
+// Numbers 10 to 13, in this order, of an image whose layout holds. A place that was found is the failure, and an Option has no `?` for
+// that.
+#[tactic(auto, unfolding(order::specs::Rules::answer_of, image::specs::Layout::tested, rules::specs::Numbers::fields_rule, rules::specs::Numbers::override_rule, rules::specs::Numbers::typing_rule, rules::specs::Numbers::setting_rule))]
+fn check_rules(image: &Image) -> Result<(), Rejected>
+    ensures { checked_numbers result ≡ answer_of (RulesFrom10 image.now.words.now) }
 {
-    if let Found::At(p) = class_rules::fields_place(ws, l) {
-        return Checked::Fields(p);
+    if let Some(p) = class_rules::fields_place(image) {
+        return Err(Rejected::Fields(p));
     }
-    if let Found::At(p) = class_rules::override_place(ws, l) {
-        return Checked::Override(p);
+    if let Some(p) = class_rules::override_place(image) {
+        return Err(Rejected::Override(p));
     }
-    if let Found::At(p) = typing::untyped_place(ws, l) {
-        return Checked::Untyped(p);
+    if let Some(p) = typing::untyped_place(image) {
+        return Err(Rejected::Untyped(p));
     }
-    if let Found::At(p) = setting::unset_place(ws, l) {
-        return Checked::Unset(p);
+    if let Some(p) = setting::unset_place(image) {
+        return Err(Rejected::Unset(p));
     }
-    Checked::Accepted
+    Ok(())
 }
 
 // The image check. Any slice of words may be asked.
-pub fn check_image(ws: &[u32]) -> Checked
+#[tactic(auto, using(crate::specs::Laws::broken, crate::specs::Laws::passed))]
+pub fn check_image(ws: &[u32]) -> Result<(), Rejected>
     ensures { checked_numbers result ≡ answer_of (check_rules ws.now) }
 {
-    match layout::layout_of_image(ws) {
-        Laid::Broken(b) => Checked::Layout(b),
-        Laid::Sound(l) => check_rules(ws, l),
-    }
+    let image = layout::layout_of_image(ws)?;
+    check_rules(&image)
 }
 
-// The number and place of an answer; 0 at 0 where the image is accepted.
-pub fn checked_answer(c: Checked) -> Answer
-    ensures { result ≡ checked_numbers c }
-{
-    match c {
-        Checked::Accepted => Answer {
-            number: 0,
-            place: 0,
-        },
-        Checked::Layout(b) => image::breach_answer(b),
-        Checked::Fields(p) => Answer {
-            number: 10,
-            place: p as u64,
-        },
-        Checked::Override(p) => Answer {
-            number: 11,
-            place: p as u64,
-        },
-        Checked::Untyped(p) => Answer {
-            number: 12,
-            place: p as u64,
-        },
-        Checked::Unset(p) => Answer {
-            number: 13,
-            place: p as u64,
-        },
-    }
-}
-
-// The image check's number and place.
+// The image check's number and place; 0 at 0 where the image is let in. As in `layout`, two arms say more than `map_or_else`.
 pub fn check_answer(ws: &[u32]) -> Answer
     ensures { result ≡ answer_of (check_rules ws.now) }
 {
-    checked_answer(check_image(ws))
+    match check_image(ws) {
+        Ok(()) => Answer::ACCEPTED,
+        Err(r) => Answer::from(r),
+    }
 }

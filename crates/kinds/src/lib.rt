@@ -1,163 +1,50 @@
 // What x and y of a node must be, and how many operands it has, by its kind: number 8.
 #![tactic(auto)]
 
-ghost use Rattle.std.specs.Prelude.{◌≡◌, ◌&&◌, ◌≤◌, ◌<◌, ltb, leb};
-ghost use Rattle.words.specs.Types.{is_declared, is_type};
-ghost use Rattle.words.specs.Value.{is_value};
-ghost use Rattle.image.specs.Numbers.{most_arguments, most_classes, written_tags};
-ghost use Rattle.image.specs.Records.{is_name};
-ghost use Rattle.image.specs.Nodes.{is_class, is_variable, is_local, is_unused, names_hold, operands};
+ghost use Rattle.std.specs.Prelude.{◌≡◌, ◌≤◌};
+ghost use Rattle.image.specs.Numbers.{most_classes};
+ghost use Rattle.image.specs.Nodes.{is_local, names_hold, operands};
 
-use image::Kind;
+use image::{HIGHEST_NAME, Kind, MOST_ARGUMENTS, VARIABLES, WRITTEN_TAGS};
 
+// A Block's or a Try's variable: not `this`.
+#[tactic(auto, unfolding(image::specs::Nodes::is_local))]
 fn is_local(x: u32) -> bool
     ensures { result ≡ is_local x }
 {
-    if x < 1 {
-        return false;
-    }
-    x < image::VARIABLES
+    1 <= x && x < VARIABLES
 }
 
-// Nothing is named.
-fn neither(x: u32, y: u32) -> bool
-    ensures { result ≡ (is_unused x && is_unused y) }
-{
-    if x != 0 {
-        return false;
-    }
-    y == 0
-}
-
-// A class, and no y.
-fn class_alone(classes: u32, x: u32, y: u32) -> bool
-    ensures { result ≡ (is_class classes x && is_unused y) }
-{
-    if x >= classes {
-        return false;
-    }
-    y == 0
-}
-
-// A variable, and no y.
-fn variable_alone(x: u32, y: u32) -> bool
-    ensures { result ≡ (is_variable x && is_unused y) }
-{
-    if x >= image::VARIABLES {
-        return false;
-    }
-    y == 0
-}
-
-// A type, the null type too, and no y.
-fn type_alone(classes: u32, x: u32, y: u32) -> bool
-    requires { classes ≤ most_classes }
-    ensures { result ≡ (is_type x classes && is_unused y) }
-{
-    if !words::is_type(x, classes) {
-        return false;
-    }
-    y == 0
-}
-
-// A tag that may be written, and its payload.
-fn written_value(x: u32, y: u32) -> bool
-    ensures { result ≡ (ltb x written_tags && is_value x y) }
-{
-    if x >= image::WRITTEN_TAGS {
-        return false;
-    }
-    words::is_value(x, y)
-}
-
-// A field's name and the class that declares it.
-fn name_and_class(classes: u32, x: u32, y: u32) -> bool
-    ensures { result ≡ (is_name x && is_class classes y) }
-{
-    if x > image::HIGHEST_NAME {
-        return false;
-    }
-    y < classes
-}
-
-// A method's name and the number of arguments.
-fn name_and_count(x: u32, y: u32) -> bool
-    ensures { result ≡ (is_name x && leb y most_arguments) }
-{
-    if x > image::HIGHEST_NAME {
-        return false;
-    }
-    y <= image::MOST_ARGUMENTS
-}
-
-// A block's variable and its type.
-fn local_and_type(classes: u32, x: u32, y: u32) -> bool
-    requires { classes ≤ most_classes }
-    ensures { result ≡ (is_local x && is_declared y classes) }
-{
-    if !is_local(x) {
-        return false;
-    }
-    words::is_declared(y, classes)
-}
-
-// What a Try catches, and the variable that then holds it.
-fn class_and_local(classes: u32, x: u32, y: u32) -> bool
-    ensures { result ≡ (is_class classes x && is_local y) }
-{
-    if x >= classes {
-        return false;
-    }
-    is_local(y)
-}
-
-// What x and y of a node must be.
+// What x and y of a node must be. They are words of a record that may be broken, so there is no type of nodes yet.
+#[tactic(auto, unfolding(image::specs::Nodes::names_hold, image::specs::Nodes::is_class, image::specs::Nodes::is_variable, image::specs::Nodes::is_unused, image::specs::Records::is_name))]
 pub fn names_hold(classes: u32, k: Kind, x: u32, y: u32) -> bool
     requires { classes ≤ most_classes }
     ensures { result ≡ names_hold classes k x y }
 {
     match k {
-        Kind::New => class_alone(classes, x, y),
-        Kind::Cast => class_alone(classes, x, y),
-        Kind::Value => written_value(x, y),
-        Kind::Var => variable_alone(x, y),
-        Kind::Add => neither(x, y),
-        Kind::Eq => neither(x, y),
-        Kind::Assign => variable_alone(x, y),
-        Kind::Get => name_and_class(classes, x, y),
-        Kind::Set => name_and_class(classes, x, y),
-        Kind::Call => name_and_count(x, y),
-        Kind::Block => local_and_type(classes, x, y),
-        Kind::Seq => neither(x, y),
-        Kind::If => neither(x, y),
-        Kind::While => neither(x, y),
-        Kind::Throw => type_alone(classes, x, y),
-        Kind::Try => class_and_local(classes, x, y),
+        Kind::New | Kind::Cast => x < classes && y == 0,
+        Kind::Value => x < WRITTEN_TAGS && words::is_value(x, y),
+        Kind::Var | Kind::Assign => x < VARIABLES && y == 0,
+        Kind::Add | Kind::Eq | Kind::Seq | Kind::If | Kind::While => x == 0 && y == 0,
+        Kind::Get | Kind::Set => x <= HIGHEST_NAME && y < classes,
+        Kind::Call => x <= HIGHEST_NAME && y <= MOST_ARGUMENTS,
+        Kind::Block => is_local(x) && words::is_declared(y, classes),
+        Kind::Throw => words::is_type(x, classes) && y == 0,
+        Kind::Try => x < classes && is_local(y),
         Kind::Unknown => false,
     }
 }
 
 // How many operands a node has.
+#[tactic(auto, unfolding(image::specs::Nodes::operands))]
 pub fn operand_count(k: Kind, y: u32) -> usize
     ensures { result ≡ operands k y }
 {
     match k {
-        Kind::New => 0,
-        Kind::Cast => 1,
-        Kind::Value => 0,
-        Kind::Var => 0,
-        Kind::Add => 2,
-        Kind::Eq => 2,
-        Kind::Assign => 1,
-        Kind::Get => 1,
-        Kind::Set => 2,
-        Kind::Call => y as usize + 1,
-        Kind::Block => 1,
-        Kind::Seq => 2,
+        Kind::New | Kind::Value | Kind::Var | Kind::Unknown => 0,
+        Kind::Cast | Kind::Assign | Kind::Get | Kind::Block | Kind::Throw => 1,
+        Kind::Add | Kind::Eq | Kind::Set | Kind::Seq | Kind::While | Kind::Try => 2,
         Kind::If => 3,
-        Kind::While => 2,
-        Kind::Throw => 1,
-        Kind::Try => 2,
-        Kind::Unknown => 0,
+        Kind::Call => y as usize + 1,
     }
 }

@@ -1,5 +1,5 @@
 -- Laws of the heap: words and slots say the same, and a change of one is a change of the other.
-use Rattle.std.specs.Prelude.{◌≡◌, Bool, not, ◌&&◌, List, [], ◌∷◌, ◌++◌, map, eqb, leb, set, take, drop, replicate}
+use Rattle.std.specs.Prelude.{◌≡◌, Bool, not, ◌&&◌, List, [], ◌∷◌, ◌++◌, map, eqb, leb, set, take, drop, replicate, is_some}
 use Rattle.std.proofs.Math.Path.{refl, sym, ap}
 use Rattle.std.proofs.Common.{◌∙◌, append_assoc, length-append, length-set, length-take-le, drop-drop, get_or-append-add, drop_at, get_or-set_same, get_or-set_other, ext_get_or}
 use Rattle.std.proofs.Math.Bool.{true, false, cond}
@@ -13,15 +13,15 @@ use Rattle.std.proofs.lemmas.List.{length-map, length-replicate, get_or-replicat
 use Rattle.std.proofs.lemmas.List.Edits.{sets, sets-eq}
 use Rattle.std.proofs.Math.Seq.{take-append-add, drop-append-add, set_out}
 use borrow.Author.Tests.{eqb-true, leb-true, le-leb, ltb-true, ltb-false}
-use Rattle.order.specs.declared.Found.{Found}
-use Rattle.order.specs.declared.Found.TheVariants.{At, Nowhere}
+use Rattle.std.specs.declared.option.Option.{Option as Maybe}
+use Rattle.std.specs.declared.option.Option.TheVariants.{Some, None}
 use Rattle.order.specs.Rules.{scan}
 use Rattle.words.specs.declared.Value.{Value}
-use Rattle.words.specs.declared.Decoded.{Decoded}
-use Rattle.words.specs.declared.Decoded.TheVariants.{Is, Not}
+use Rattle.std.specs.declared.option.Option.{Option as Maybe}
+use Rattle.std.specs.declared.option.Option.TheVariants.{Some, None}
 use Rattle.words.specs.declared.Ty.{Ty}
 use Rattle.words.specs.declared.Ty.TheVariants.{Void, Boolean, Integer, NT, Class}
-use Rattle.words.specs.Value.{value_of, word_of, is_is, Proper}
+use Rattle.words.specs.Value.{value_of, word_of, Proper}
 use Rattle.words.proofs.ValueLaws.{decode_encode, encode_decode, decode_proper}
 use Rattle.image.specs.Laws.{and_left}
 use Rattle.image.specs.Trailer.{class_count}
@@ -172,19 +172,19 @@ words_put (s ∷ h) f (suc a) c vs i w e l =
     rw (q, set_append_right xs (words_of h) (slot_words * a + 1 + i) (word_of w)) (ap (xs ++◌) (words_put h (fits_tail f) a c vs i w e l))
 
 -- a word that is a value's is the word of that value, and what is decoded is proper
-pub written_word : (w : ℕ) → is_is (value_of w) ≡ true → word_of (written (value_of w)) ≡ w
+pub written_word : (w : ℕ) → is_some (value_of w) ≡ true → word_of (written (value_of w)) ≡ w
 written_word w h = go (value_of w) refl h
   where
-    go : (d : Decoded) → value_of w ≡ d → is_is d ≡ true → word_of (written d) ≡ w
-    go (Is v) e q = decode_encode w v e
-    go Not e q = absurd (let z : ◌≡◌ {A = ℕ} 0 1 = cc in omega arith)
+    go : (d : Maybe Value) → value_of w ≡ d → is_some d ≡ true → word_of (written d) ≡ w
+    go (Some v) e q = decode_encode w v e
+    go None e q = absurd (let z : ◌≡◌ {A = ℕ} 0 1 = cc in omega arith)
 
 pub written_proper : (w : ℕ) → Proper (written (value_of w))
 written_proper w = go (value_of w) refl
   where
-    go : (d : Decoded) → value_of w ≡ d → Proper (written d)
-    go (Is v) e = decode_proper w v e
-    go Not e = tt
+    go : (d : Maybe Value) → value_of w ≡ d → Proper (written d)
+    go (Some v) e = decode_proper w v e
+    go None e = tt
 
 pub written_same : (v : Value) → Proper v → written (value_of (word_of v)) ≡ v
 written_same v h = ap written (encode_decode v h)
@@ -325,7 +325,7 @@ module _ (P : Program) (classes : ℕ) (hs : List ℕ) (w : Words P classes hs) 
       f : ℕ → Value
       f i = written (value_of (get_or hs (b + suc i) 0))
 
-      go : (t : Bool) → ltb j n ≡ t → cond t (is_is (value_of (get_or hs (b + suc j) 0))) (eqb (get_or hs (b + suc j) 0) 0) ≡ true
+      go : (t : Bool) → ltb j n ≡ t → cond t (is_some (value_of (get_or hs (b + suc j) 0))) (eqb (get_or hs (b + suc j) 0) 0) ≡ true
           → get_or (slot_words_of (obj c (tabulate n f))) (suc j) 0 ≡ get_or hs (b + suc j) 0
       go true t q =
           let m = ltb-true j n t in
@@ -534,7 +534,7 @@ module _ (P : Program) (classes : ℕ) where
   slot_shaped (obj c vs) o (suc j) l = rw slot_class (go (ltb j (length (has_fields P c))) refl)
     where
       go : (t : Bool) → ltb j (length (has_fields P c)) ≡ t
-          → cond t (is_is (value_of (get_or (slot_words_of (obj c vs)) (suc j) 0))) (eqb (get_or (slot_words_of (obj c vs)) (suc j) 0) 0) ≡ true
+          → cond t (is_some (value_of (get_or (slot_words_of (obj c vs)) (suc j) 0))) (eqb (get_or (slot_words_of (obj c vs)) (suc j) 0) 0) ≡ true
       go true t =
           rw (slot_field c vs j Value.Unit (rw o.count (ltb-true _ _ t)), encode_decode (get_or vs j Value.Unit) (o.proper j))
       go false t = rw (slot_rest c vs j (rw o.count (ltb-false _ _ t)) l)
@@ -581,9 +581,9 @@ abbrev pub taken : Slot → Bool
 taken free = false
 taken (obj c vs) = true
 
-abbrev pub place : Found → Option ℕ
-place (At a) = some a
-place Nowhere = none
+abbrev pub place : Maybe ℕ → Option ℕ
+place (Some a) = some a
+place None = none
 
 free_from_scan : (test : ℕ → Bool) (h : Heap) (i : ℕ) → ((a : ℕ) → a < length h → test (i + a) ≡ taken (look h a))
     → free_from h i ≡ place (scan test (length h) i)

@@ -1,11 +1,11 @@
 -- Laws of a value word by its tag.
-use Rattle.std.specs.Prelude.{◌≡◌, refl, Bool, true, false, ℕ, ◌+◌, ◌*◌, ◌/◌, ◌%◌, ◌^◌, ◌<◌, eqb, ltb}
+use Rattle.std.specs.Prelude.{◌≡◌, refl, Bool, true, false, ℕ, ◌+◌, ◌*◌, ◌/◌, ◌%◌, ◌^◌, ◌<◌, eqb, ltb, is_some}
 use Rattle.std.proofs.Common.{sym, ◌∙◌}
 use Rattle.std.proofs.Math.Path.{ap}
 use native.Mathlib.Omega.{arith}
 use Rattle.words.specs.declared.Value.{Value}
 use Rattle.words.specs.declared.Value.TheVariants.{Null, Intg, Addr}
-use Rattle.words.specs.Value.{addresses, word_of, Proper, tag_of, payload_of, given, value_with, value_of, is_is}
+use Rattle.words.specs.Value.{addresses, word_of, Proper, tag_of, payload_of, given, value_with, value_of}
 use Rattle.words.proofs.ValueLaws.{encode_decode}
 use Rattle.rules.specs.Trees.{written}
 use Rattle.rules.specs.Step.{tag, payload}
@@ -14,14 +14,14 @@ use Rattle.laws.specs.Heap.{written_word, written_proper, written_same}
 
 -- A proper value's word is a value's. (Its value is that one: `written_same`.)
 pub word_value : (v : Value) → Proper v → IsValue (word_of v)
-word_value v h = ap is_is (encode_decode v h)
+word_value v h = ap is_some (encode_decode v h)
 
 -- the word of an address
 pub address_word : (a : ℕ) → a < addresses → IsValue (4 * 2 ^ 32 + a) × (value_at (4 * 2 ^ 32 + a) ≡ Addr a)
 unfolding word_of
 address_word a h = (word_value (Addr a) h, written_same (Addr a) h)
 
-given_value : (b : Bool) (v : Value) → is_is (given b v) ≡ true → written (given b v) ≡ v
+given_value : (b : Bool) (v : Value) → is_some (given b v) ≡ true → written (given b v) ≡ v
 given_value true v k = refl
 given_value false v k = absurd (let z : ◌≡◌ {A = ℕ} 0 1 = cc in omega arith)
 

@@ -12,8 +12,8 @@ use Rattle.std.proofs.Math.ListN.{get_or}
 use borrow.Author.Tests.{leb-true, eqb-true}
 use Rattle.words.specs.Types.{type_of}
 use Rattle.words.specs.Value.{value_with}
-use Rattle.order.specs.declared.Found.{Found}
-use Rattle.order.specs.declared.Found.TheVariants.{At, Nowhere}
+use Rattle.std.specs.declared.option.Option.{Option}
+use Rattle.std.specs.declared.option.Option.TheVariants.{Some, None}
 use Rattle.image.specs.declared.Kind.{Kind}
 use Rattle.image.specs.declared.Kind.TheVariants.{New, Cast, Value as Literal, Var, Add, Eq, Assign, Get, Set, Call, Block, Seq, If, While, Throw, Try, Unknown}
 use Rattle.image.specs.Laws.{and_right}
@@ -100,14 +100,14 @@ module _ (ws : List ℕ) where
   there_on k e b r zero l = omega arith
   there_on k e b r (suc j) l = rw begins_next at (r.there j (omega arith))
 
-  pub reached : (k e b : ℕ) → reach ws k e ≡ At b → Reached k e b
+  pub reached : (k e b : ℕ) → reach ws k e ≡ Some b → Reached k e b
   unfolding reach begins
   reached zero e b h = record { first = cc; spans = λ j l. absurd (omega arith); there = λ j l. absurd (omega arith) }
   reached (suc k) zero b h = absurd (let z : ◌≡◌ {A = ℕ} 0 1 = cc in omega arith)
   reached (suc k) (suc e) b h = go (leb (node_word ws e 1) (suc e)) refl h (λ q. reached k (suc e - node_word ws e 1) b q)
     where
-      go : (t : Bool) → leb (node_word ws e 1) (suc e) ≡ t → cond t (reach ws k (suc e - node_word ws e 1)) Nowhere ≡ At b
-          → (reach ws k (suc e - node_word ws e 1) ≡ At b → Reached k (suc e - node_word ws e 1) b)
+      go : (t : Bool) → leb (node_word ws e 1) (suc e) ≡ t → cond t (reach ws k (suc e - node_word ws e 1)) None ≡ Some b
+          → (reach ws k (suc e - node_word ws e 1) ≡ Some b → Reached k (suc e - node_word ws e 1) b)
           → Reached (suc k) (suc e) b
       go true t q ih =
           let r = ih q in
@@ -132,10 +132,10 @@ module _ (ws : List ℕ) where
       (size_is n (node_word ws n 1) (reach ws (operand_count n) n))
       h)
     where
-      go : (f : Found) → reach ws (operand_count n) n ≡ f → size_is n (node_word ws n 1) f ≡ true
+      go : (f : Option ℕ) → reach ws (operand_count n) n ≡ f → size_is n (node_word ws n 1) f ≡ true
           → (b : ℕ) × Reached (operand_count n) n b × (b + node_word ws n 1 ≡ suc n)
-      go (At b) e q = (b, reached (operand_count n) n b e, eqb-true _ _ q)
-      go Nowhere e q = absurd (let z : ◌≡◌ {A = ℕ} 0 1 = cc in omega arith)
+      go (Some b) e q = (b, reached (operand_count n) n b e, eqb-true _ _ q)
+      go None e q = absurd (let z : ◌≡◌ {A = ℕ} 0 1 = cc in omega arith)
 
   module _ (n : ℕ) (h : node_holds ws n ≡ true) where
     pub operand_end : (j : ℕ) → j < operand_count n → suc (operand ws n j) ≡ begins n j

@@ -3,7 +3,7 @@ use Rattle.std.specs.Prelude.{◌≡◌, true, false, List, ℕ, ◌≤◌, leng
 use Rattle.std.proofs.Common.{leb-true}
 use Rattle.order.specs.Rules.{scan, first_place}
 use Rattle.order.specs.Lowest.{held}
-use Rattle.order.specs.declared.Found.TheVariants.{At, Nowhere}
+use Rattle.std.specs.declared.option.Option.TheVariants.{Some, None}
 use Rattle.image.specs.declared.Layout.{Layout}
 use Rattle.image.specs.Numbers.{trailer_words, format_number}
 use Rattle.image.specs.Laws.{and_left}
@@ -11,12 +11,12 @@ use Rattle.image.specs.Trailer.{trailer, format_holds, ceiling_tests}
 use Rattle.image.specs.Layout.{tested, format_rule, ceiling_rule, class_rule, field_rule, method_rule, type_rule, node_rule, body_rule, Lay, Small, Good}
 
 pub good : (ws : List ℕ) (l : Layout) → Lay ws l → Small l
-    → first_place (class_rule ws) ≡ Nowhere
-    → first_place (field_rule ws) ≡ Nowhere
-    → first_place (method_rule ws) ≡ Nowhere
-    → first_place (type_rule ws) ≡ Nowhere
-    → first_place (node_rule ws) ≡ Nowhere
-    → first_place (body_rule ws) ≡ Nowhere
+    → first_place (class_rule ws) ≡ None
+    → first_place (field_rule ws) ≡ None
+    → first_place (method_rule ws) ≡ None
+    → first_place (type_rule ws) ≡ None
+    → first_place (node_rule ws) ≡ None
+    → first_place (body_rule ws) ≡ None
     → Good ws l
 unfolding class_rule field_rule method_rule type_rule node_rule body_rule
 good ws l y s c f m t n b =
@@ -32,11 +32,11 @@ good ws l y s c f m t n b =
     }
 
 -- the one test of number 1
-pub format_broken : (ws : List ℕ) → format_holds ws ≡ false → first_place (format_rule ws) ≡ At 0
+pub format_broken : (ws : List ℕ) → format_holds ws ≡ false → first_place (format_rule ws) ≡ Some 0
 unfolding first_place scan format_rule tested
 format_broken ws e = rw e
 
-pub format_passed : (ws : List ℕ) → format_holds ws ≡ true → first_place (format_rule ws) ≡ Nowhere
+pub format_passed : (ws : List ℕ) → format_holds ws ≡ true → first_place (format_rule ws) ≡ None
 unfolding first_place scan format_rule tested
 format_passed ws e = rw e
 

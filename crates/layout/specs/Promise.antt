@@ -10,8 +10,8 @@ use Rattle.image.specs.Layout.{format_rule, trailer_rule, ceiling_rule, class_ru
 use Rattle.image.specs.declared.Layout.{Layout}
 use Rattle.image.specs.declared.Breach.{Breach}
 use Rattle.image.specs.declared.Breach.TheVariants.{Format, Trailer, Ceiling, ClassRecord, FieldRecord, MethodRecord, TypeWord, NodeRecord, Bodies}
-use Rattle.image.specs.declared.Laid.{Laid}
-use Rattle.image.specs.declared.Laid.TheVariants.{Sound, Broken}
+use Rattle.std.specs.declared.result.Result.{Result}
+use Rattle.std.specs.declared.result.Result.TheVariants.{Ok, Err}
 
 pub layout_rising : (ws : List ℕ) → Rising 0 (layout_rules ws)
 unfolding layout_rules record_rules format_rule trailer_rule ceiling_rule class_rule field_rule method_rule type_rule node_rule body_rule tested
@@ -107,8 +107,8 @@ same_layout ws l m y z =
       inputs = (y.inputs ∙ sym z.inputs) i;
     }
 
-pub same_laid : (ws : List ℕ) (a b : Laid) → laid_numbers a ≡ laid_numbers b → Brings ws a → Brings ws b → a ≡ b
-same_laid ws (Sound l) (Sound m) e y z = ap Sound (same_layout ws l m y.lay z.lay)
-same_laid ws (Sound l) (Broken c) e y z = absurd (breach_number c (sym (ap (λ (a : Answer). a.number) e)))
-same_laid ws (Broken b) (Sound m) e y z = absurd (breach_number b (ap (λ (a : Answer). a.number) e))
-same_laid ws (Broken b) (Broken c) e y z = ap Broken (same_breach b c e)
+pub same_laid : (ws : List ℕ) (a b : Result Layout Breach) → laid_numbers a ≡ laid_numbers b → Brings ws a → Brings ws b → a ≡ b
+same_laid ws (Ok l) (Ok m) e y z = ap Ok (same_layout ws l m y.lay z.lay)
+same_laid ws (Ok l) (Err c) e y z = absurd (breach_number c (sym (ap (λ (a : Answer). a.number) e)))
+same_laid ws (Err b) (Ok m) e y z = absurd (breach_number b (ap (λ (a : Answer). a.number) e))
+same_laid ws (Err b) (Err c) e y z = ap Err (same_breach b c e)

@@ -1,108 +1,130 @@
-// What makes a line no case, by number. The numbers from 4 to 7 are those of `cases`.
-ghost use Rattle.std.specs.Prelude.{◌≤◌};
+// What makes a line no case.
+ghost use Rattle.std.specs.Prelude.{◌≤◌, length, IfOk};
 
-use crate::heads::{Asked, Head};
+use crate::heads::{Head, Question};
 use crate::parts;
-use crate::parts::Words;
 use cases::Line;
-
-const NO_QUESTION: u64 = 1;
-
-const NO_NAME: u64 = 2;
-
-const LONG_NAME: u64 = 3;
-
-// A word of the image that has more than 32 bits.
-const WIDE_WORD: u64 = 8;
-
-// A part that is to be one number.
-const NOT_ONE: u64 = 9;
-
-const LONG_ROOM: u64 = 10;
-
-pub const NO_INPUT: u64 = 11;
 
 const LONGEST_NAME: usize = 64;
 
 const MOST_ROOM: u64 = 131072;
 
+#[derive(Clone, Copy, PartialEq, Eq)]
+pub enum Kind {
+    NoQuestion,
+    NoName,
+    LongName,
+    // found as the line was read
+    Read(cases::Fault),
+    // a word of the image that has more than 32 bits
+    WideWord,
+    // a part that is to be one number
+    NotOne,
+    LongRoom,
+    NoInput,
+}
+
+// The number that a fault is told by.
+impl From<Kind> for u64 {
+    ghost from_gives = { λ _ n. n ≤ 11 };
+
+    fn from(kind: Kind) -> u64 {
+        match kind {
+            Kind::NoQuestion => 1,
+            Kind::NoName => 2,
+            Kind::LongName => 3,
+            Kind::Read(fault) => fault as u64,
+            Kind::WideWord => 8,
+            Kind::NotOne => 9,
+            Kind::LongRoom => 10,
+            Kind::NoInput => 11,
+        }
+    }
+}
+
 // The part counted from 1, and the word in it from 0.
 #[derive(Clone, Copy)]
-pub struct Fault {
-    pub kind: u64,
+pub struct Fault<K> {
+    pub kind: K,
     pub part: usize,
     pub word: usize,
 }
 
-// A fault that has no place in a line.
-pub fn at_head(kind: u64) -> Fault {
-    Fault {
-        kind,
-        part: 0,
-        word: 0,
+impl<K> Fault<K> {
+    // A fault that has no place in a line. It is written with 0 and 0, so it has them here.
+    pub fn at_head(kind: K) -> Self {
+        Fault {
+            kind,
+            part: 0,
+            word: 0,
+        }
     }
 }
 
-// The first thing that is wrong with a line; 0 where nothing is.
-pub fn of(q: Asked, h: Head, l: Line, image: Words, numbers: &[u64], bars: &[usize; 16]) -> Fault
-    requires { (h.from ≤ h.to) × (q.parts ≤ 15) }
+// A line that is a case: what it asks, and how many words its image has.
+#[derive(Clone, Copy)]
+pub struct Case {
+    pub question: Question,
+    pub words: usize,
+}
+
+// The case that a line is, or the first thing that is wrong with the line.
+pub fn case_of(line: &Line<'_>, head: Head<'_>, words: &mut [u32]) -> Result<Case, Fault<Kind>>
+    ensures { IfOk result (λ c. c.words ≤ length words.old) }
 {
-    let kind = of_line(q, h, l);
-    if kind != 0 {
-        return Fault {
-            kind,
-            part: l.bars,
-            word: l.words,
-        };
-    }
-    if image.is_wide {
-        return Fault {
-            kind: WIDE_WORD,
-            part: 1,
-            word: image.count,
-        };
-    }
-    of_singles(q, numbers, bars)
+    let question = question_of(line, head).map_err(|kind| Fault {
+        kind,
+        part: line.bar_count,
+        word: line.words,
+    })?;
+    let words = parts::image(line, words).map_err(|word| Fault {
+        kind: Kind::WideWord,
+        part: 1,
+        word,
+    })?;
+    singles(question, line)?;
+    Ok(Case { question, words })
 }
 
 // In the order in which a line is read.
-fn of_line(q: Asked, h: Head, l: Line) -> u64
-    requires { (h.from ≤ h.to) × (q.parts ≤ 15) }
-{
-    if q.parts == 0 {
-        return NO_QUESTION;
+fn question_of(line: &Line<'_>, head: Head<'_>) -> Result<Question, Kind> {
+    let question = Question::of(head.question).ok_or(Kind::NoQuestion)?;
+    if head.name.is_empty() {
+        return Err(Kind::NoName);
     }
-    if h.to == h.from {
-        return NO_NAME;
+    if LONGEST_NAME < head.name.len() {
+        return Err(Kind::LongName);
     }
-    if LONGEST_NAME < h.to - h.from {
-        return LONG_NAME;
+    if !head.more.is_empty() {
+        return Err(Kind::Read(cases::Fault::NoBar));
     }
-    if h.has_more {
-        return cases::NO_BAR;
+    if let Some(fault) = line.fault {
+        return Err(Kind::Read(fault));
     }
-    if (l.fault != 0) | (l.bars == q.parts + 1) {
-        return l.fault;
+    if line.bar_count == question.parts() + 1 {
+        return Ok(question);
     }
-    if l.bars < 2 {
-        cases::NO_BAR
+    Err(Kind::Read(if line.bar_count < 2 {
+        cases::Fault::NoBar
     } else {
-        cases::MANY_PARTS
-    }
+        cases::Fault::ManyParts
+    }))
 }
 
 // Of the parts that are one number each, the first is a room.
-fn of_singles(q: Asked, numbers: &[u64], bars: &[usize; 16]) -> Fault {
-    let part = parts::odd(bars, q.many, q.parts);
-    let mut kind = 0;
-    if part > 0 {
-        kind = NOT_ONE;
-    } else if (q.many < q.parts) & (MOST_ROOM < parts::single(numbers, bars, q.many)) {
-        kind = LONG_ROOM;
+fn singles(question: Question, line: &Line<'_>) -> Result<(), Fault<Kind>> {
+    for k in question.many()..question.parts() {
+        if line.part(k).len() != 1 {
+            return Err(Fault {
+                kind: Kind::NotOne,
+                part: k + 1,
+                word: 0,
+            });
+        }
     }
-    Fault {
-        kind,
-        part,
-        word: 0,
+    let room = question.many();
+    if room < question.parts() && MOST_ROOM < parts::single(line, room) {
+        return Err(Fault::at_head(Kind::LongRoom));
     }
+    Ok(())
 }

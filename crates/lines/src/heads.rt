@@ -1,124 +1,102 @@
 // The head of a line: its question and its name.
-ghost use Rattle.std.specs.Prelude.{◌≡◌, ◌≤◌, length};
+ghost use Rattle.std.specs.Prelude.{◌≤◌, length, IfOk, IfSome};
 
-use crate::faults::Fault;
-use crate::parts::Words;
+use crate::faults::Case;
 use crate::{faults, print};
 use cases::Line;
 use std::io;
 
-// What is asked, by number; 0 where the line is empty, or no case, which is then told. The name of a case is
-// written, and its answer is to follow.
-pub fn question(
-    rt: &impl Print,
-    l: Line,
-    image: Words,
-    head: &[u8],
-    numbers: &[u64],
-    bars: &[usize; 16],
-) -> io::Result<u64>
-    requires { (l.head ≤ length head.now) × (l.bars ≤ 16) }
+// The case that a line is; none where the line is empty, or no case, which is then told. The words of its image
+// go into `words`. The name of a case is written, and its answer is to follow.
+pub fn case(rt: &impl Print, line: &Line<'_>, words: &mut [u32]) -> io::Result<Option<Case>>
+    ensures { IfOk result (λ case. IfSome case (λ c. c.words ≤ length words.old)) }
 {
-    let n = l.head;
-    if (n == 0) & (l.bars < 2) & (l.fault == 0) {
-        return Ok(0);
+    let bytes = line.head();
+    if bytes.is_empty() && line.bar_count < 2 && line.fault.is_none() {
+        return Ok(None);
     }
-    let h = split(head, n);
-    let end = h.question;
-    let q = look_up(&head[0..end]);
-    let f = faults::of(q, h, l, image, numbers, bars);
-    if f.kind != 0 {
-        print::wrong(rt, l.number, f)?;
-        return Ok(0);
+    let head = split(bytes);
+    match faults::case_of(line, head, words) {
+        Ok(case) => {
+            print::name(rt, head.name)?;
+            Ok(Some(case))
+        }
+        Err(fault) => {
+            print::wrong(rt, line.number, fault)?;
+            Ok(None)
+        }
     }
-    let from = h.from;
-    let to = h.to;
-    print::name(rt, &head[from..to])?;
-    Ok(q.question)
 }
 
-// Where the question ends, from where to where the name stands, and whether there is more.
+// The word that asks, the name behind it, and what is behind both.
 #[derive(Clone, Copy)]
-pub struct Head {
-    pub question: usize,
-    pub from: usize,
-    pub to: usize,
-    pub has_more: bool,
+pub struct Head<'a> {
+    pub question: &'a [u8],
+    pub name: &'a [u8],
+    pub more: &'a [u8],
 }
 
-// The first n bytes of a head have no two blanks side by side, and none at their start.
-pub fn split(head: &[u8], n: usize) -> Head
-    requires { n ≤ length head.now }
-    ensures { (result.question ≤ n) × (result.from ≤ result.to) × (result.to ≤ n) }
+// A head has no two blanks side by side, and none at its start.
+pub fn split(head: &[u8]) -> Head<'_>
+    ensures question { length result.question.now ≤ length head.now }
+    ensures name { length result.name.now ≤ length head.now }
 {
-    let question = blank(head, 0, n);
-    if n <= question {
-        return Head {
-            question,
-            from: n,
-            to: n,
-            has_more: false,
-        };
-    }
-    let from = question + 1;
-    name(head, question, from, n)
-}
-
-fn name(head: &[u8], question: usize, from: usize, n: usize) -> Head
-    requires { (from ≤ n) × (n ≤ length head.now) }
-    ensures { (result.question ≡ question) × (result.from ≤ result.to) × (result.to ≤ n) }
-{
-    let to = blank(head, from, n);
+    let (question, rest) = cut(head);
+    let (name, more) = cut(rest);
     Head {
         question,
-        from,
-        to,
-        has_more: 1 < n - to,
+        name,
+        more,
     }
 }
 
-// Where the first blank of head[from..n] stands; n where there is none.
-fn blank(head: &[u8], from: usize, n: usize) -> usize
-    requires { (from ≤ n) × (n ≤ length head.now) }
-    ensures { (from ≤ result) × (result ≤ n) }
+// What stands before the first blank, and what behind it.
+fn cut(bytes: &[u8]) -> (&[u8], &[u8])
+    ensures { (length result.0.now ≤ length bytes.now) × (length result.1.now ≤ length bytes.now) }
 {
-    match head[from..n].iter().position(|b| *b == b' ') {
-        Some(i) => from + i,
-        None => n,
+    match bytes.iter().position(|b| *b == b' ') {
+        Some(i) => (&bytes[..i], &bytes[i + 1..]),
+        None => (bytes, &[]),
     }
 }
 
-// A question by number, how many parts it takes, the image first, and how many of them may have many
-// numbers; those behind them are one number each, and the first of these is a room.
-#[derive(Clone, Copy)]
-pub struct Asked {
-    pub question: u64,
-    pub parts: usize,
-    pub many: usize,
+// What is asked.
+#[derive(Clone, Copy, PartialEq, Eq)]
+pub enum Question {
+    Check,
+    Conform,
+    Run,
 }
 
-pub fn look_up(question: &[u8]) -> Asked
-    ensures { result.parts ≤ 15 }
-{
-    if question == b"check".as_slice() {
-        return asks(1, 1, 1);
+impl Question {
+    // `FromStr` takes text and would need an error that says no more than None.
+    pub fn of(word: &[u8]) -> Option<Question> {
+        match word {
+            b"check" => Some(Question::Check),
+            b"conform" => Some(Question::Conform),
+            b"run" => Some(Question::Run),
+            _ => None,
+        }
     }
-    if question == b"conform".as_slice() {
-        return asks(2, 3, 3);
-    }
-    if question == b"run".as_slice() {
-        return asks(3, 6, 3);
-    }
-    asks(0, 0, 0)
-}
 
-fn asks(question: u64, parts: usize, many: usize) -> Asked
-    requires { parts ≤ 15 }
-    ensures { result.parts ≤ 15 }
-{
-    Asked {
-        question,
-        parts,
-        many,
+    // How many parts it takes, the image first.
+    pub fn parts(self) -> usize
+        ensures { result ≤ 15 }
+    {
+        match self {
+            Question::Check => 1,
+            Question::Conform => 3,
+            Question::Run => 6,
+        }
+    }
+
+    // How many of them may have many numbers. Those behind them are one number each, and the first of these is a room.
+    pub fn many(self) -> usize
+        ensures { result ≤ 15 }
+    {
+        match self {
+            Question::Check => 1,
+            Question::Conform | Question::Run => 3,
+        }
     }
 }

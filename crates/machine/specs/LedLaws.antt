@@ -1,7 +1,7 @@
 -- Laws of a run over leaps in a row: it goes on where they have come to.
-use Rattle.std.specs.Prelude.{◌≡◌, refl, true, List, [], ◌∷◌, ℕ, zero, suc, ◌+◌, ◌-◌, ◌≤◌, ◌<◌, length}
+use Rattle.std.specs.Prelude.{◌≡◌, true, List, ℕ, ◌+◌, ◌-◌, ◌≤◌, ◌<◌, length, replicate}
+use Rattle.std.proofs.lemmas.List.{length-replicate, get_or-replicate}
 use Rattle.std.proofs.Common.{sym, ◌∙◌, arith}
-use Rattle.std.proofs.Math.ListN.{get_or}
 use Rattle.image.specs.Trailer.{node_count}
 use Rattle.image.specs.Nodes.{node_holds}
 use Rattle.rules.specs.Program.{program}
@@ -12,25 +12,13 @@ use Rattle.memo.specs.MemoLaws.{memo_empty}
 use Rattle.room.specs.declared.Focus.{Focus}
 use Rattle.room.specs.Turn.{whole, outside}
 use Rattle.strides.specs.declared.Reached.{Reached}
-use Rattle.strides.specs.Reaches.{focus_at, Reaches}
+use Rattle.strides.specs.Reaches.{Reaches}
 use Rattle.strides.specs.ReachLaws.{reaches_less}
 use Rattle.machine.specs.Runs.{Running, left}
 
 -- a table in which nothing is kept
-unfoldable pub blank : ℕ → List ℕ
-blank zero = []
-blank (suc k) = 0 ∷ blank k
-
-blank_word : (n k : ℕ) → get_or (blank n) k 0 ≡ 0
-unfolding blank get_or
-blank_word zero zero = refl
-blank_word zero (suc k) = refl
-blank_word (suc n) zero = refl
-blank_word (suc n) (suc k) = blank_word n k
-
-pub blank_memo : (ws : List ℕ) → Memo ws (blank memo_words)
-unfolding blank
-blank_memo ws = memo_empty ws (blank memo_words) refl (λ k h. blank_word memo_words k)
+pub blank_memo : (ws : List ℕ) → Memo ws (replicate memo_words 0)
+blank_memo ws = memo_empty ws (replicate memo_words 0) (length-replicate {A = ℕ} memo_words 0) (λ k h. get_or-replicate {A = ℕ} memo_words k 0 0 h)
 
 module _ (ws : List ℕ) (D : ℕ) where
   -- the run from there on is the run
@@ -38,7 +26,7 @@ module _ (ws : List ℕ) (D : ℕ) where
       → Reaches ws D limit hs room l f hs' room' r
       → run D (program ws) limit 0 (heap_of (program ws) hs) (outside ws room l) (whole ws room l f)
       ≡ run D (program ws) (limit - (limit - r.left)) (limit - r.left) (heap_of (program ws) hs') (outside ws room' r.level)
-      (whole ws room' r.level (focus_at r.how r.word r.place))
+      (whole ws room' r.level r.focus)
   reaches_run {limit} {r = r} a =
       let e : limit - (limit - r.left) ≡ r.left = omega (arith, a.low) in
       let u : limit - r.left + r.left ≡ limit = omega (arith, a.low) in
@@ -49,14 +37,14 @@ module _ (ws : List ℕ) (good : (n : ℕ) → n < node_count ws → node_holds 
   -- no more is left of a run after leaps in a row
   pub led_less : (limit count : ℕ) {hs room : List ℕ} {l : ℕ} {f : Focus} {hs' room' : List ℕ} {r : Reached}
       → Reaches ws D (limit - count) hs room l f hs' room' r
-      → left ws D limit (limit - r.left) room' r.level (focus_at r.how r.word r.place) ≤ left ws D limit count room l f
+      → left ws D limit (limit - r.left) room' r.level r.focus ≤ left ws D limit count room l f
   led_less limit count {r = r} a = let e : limit - (limit - r.left) ≡ r.left = omega (arith, a.low) in rw e (reaches_less ws good D a)
 
   -- a run goes on where leaps have come to
   module _ {limit : ℕ} {ended : Ended} {hs₀ room₀ hs room : List ℕ} {l : ℕ} {f : Focus} {count : ℕ}
       (g : Running ws D limit ended hs₀ room₀ hs room l f count) where
     pub led : {hs' room' : List ℕ} {r : Reached} (m : ℕ) → m ≡ limit - count → Reaches ws D m hs room l f hs' room' r → length hs' ≡ length hs
-        → Running ws D limit ended hs₀ room₀ hs' room' r.level (focus_at r.how r.word r.place) (limit - r.left)
+        → Running ws D limit ended hs₀ room₀ hs' room' r.level r.focus (limit - r.left)
     led {hs'} {room'} {r} m z a b =
         let e : limit - (limit - r.left) ≡ r.left = omega (arith, a.low, g.low) in
         let u : m - r.left + r.left ≡ limit - count = omega (arith, a.low) in

@@ -9,17 +9,20 @@ use Rattle.room.specs.declared.Go.{Go}
 use Rattle.room.specs.declared.Go.TheVariants.{Moved, Stepped, Limit, Sunk, Stuck, Deep, Over}
 use Rattle.room.specs.Turn.{Turned}
 use Rattle.ends.specs.declared.Finished.{Finished}
-use Rattle.ends.specs.declared.Next.{Next}
-use Rattle.ends.specs.declared.Next.TheVariants.{On}
+use Rattle.ends.specs.declared.Going.{Going}
+use Rattle.std.specs.declared.option.Option.{Option}
+use Rattle.std.specs.declared.option.Option.TheVariants.{Some, None}
 use Rattle.ends.specs.Finished.{Finishes, next_of, ended_at}
 use Rattle.machine.specs.Runs.{Running, left, went, went_left, took, took_left, could, full, halted, sunk, sunk_answer, over_answer}
 
 module _ (ws : List ℕ) (good : (n : ℕ) → n < node_count ws → node_holds ws n ≡ true) (D : ℕ) {limit : ℕ} {ended : Ended} {hs₀ room₀ hs room : List ℕ}
     {l : ℕ} {f : Focus} {count : ℕ} (r : Running ws D limit ended hs₀ room₀ hs room l f count) (hs' room' : List ℕ) where
   -- the run goes on there, and less is left
-  abbrev pub Ongoing : Next → Type 0
-  Ongoing (On g k c) = Running ws D limit ended hs₀ room₀ hs' room' k g c × (left ws D limit c room' k g < left ws D limit count room l f)
-  Ongoing Next.End = Unit {0}
+  abbrev pub Ongoing : Option Going → Type 0
+  Ongoing (Some n) =
+      Running ws D limit ended hs₀ room₀ hs' room' n.level n.focus n.count
+      × (left ws D limit n.count room' n.level n.focus < left ws D limit count room l f)
+  Ongoing None = Unit {0}
 
   pub goes_on : (g : Go) → Turned ws D (ltb count limit) hs room l f hs' room' g → length hs' ≡ length hs → Ongoing (next_of g limit count)
   goes_on (Moved g k) t b = (
@@ -28,7 +31,7 @@ module _ (ws : List ℕ) (good : (n : ℕ) → n < node_count ws → node_holds 
   )
   goes_on (Stepped g k) t b = go (leb limit count) refl
     where
-      go : (y : Bool) → leb limit count ≡ y → Ongoing (cond y Next.End (On g k (count + 1)))
+      go : (y : Bool) → leb limit count ≡ y → Ongoing (cond y None (Some (record { focus = g; level = k; count = count + 1 })))
       go true e = tt
       go false e =
           let h : count < limit = omega (arith, leb-false limit count e) in
@@ -40,16 +43,16 @@ module _ (ws : List ℕ) (good : (n : ℕ) → n < node_count ws → node_holds 
   goes_on Over t b = tt
 
   -- the run is at its end, and a is the answer
-  abbrev pub AtEnd : Finished → Next → Type 0
-  AtEnd a (On g k c) = Unit {0}
-  AtEnd a Next.End = Finishes ended a hs'
+  abbrev pub AtEnd : Finished → Option Going → Type 0
+  AtEnd a (Some n) = Unit {0}
+  AtEnd a None = Finishes ended a hs'
 
   pub at_end : (g : Go) → Turned ws D (ltb count limit) hs room l f hs' room' g → (a : Finished) → a ≡ ended_at g f limit count
       → AtEnd a (next_of g limit count)
   at_end (Moved g k) t a e = tt
   at_end (Stepped g k) t a e = go (leb limit count) refl
     where
-      go : (y : Bool) → leb limit count ≡ y → AtEnd a (cond y Next.End (On g k (count + 1)))
+      go : (y : Bool) → leb limit count ≡ y → AtEnd a (cond y None (Some (record { focus = g; level = k; count = count + 1 })))
       go true u =
           let h : limit ≤ count = leb-true limit count u in
           full ws good D r (could ws good D t.0) h a hs' (ap (λ (x : Finished). x.end) e) (ap (λ (x : Finished). x.count) e)

@@ -1,7 +1,9 @@
 -- What lookups found, kept by node and class in a table of words. What is kept is said of a class and not of a heap, so that it
 -- stays true while the heap changes.
-use Rattle.std.specs.Prelude.{◌≡◌, true, false, List, ◌⊎◌, ℕ, ◌-◌, ◌/◌, ◌%◌, ◌<◌, length, get_or}
+use Rattle.std.specs.Prelude.{◌≡◌, true, false, List, ◌⊎◌, ℕ, ◌+◌, ◌-◌, ◌/◌, ◌%◌, ◌<◌, length, get_or}
 use Rattle.std.proofs.Math.Option.{some}
+use Rattle.std.specs.declared.option.Option.{Option}
+use Rattle.std.specs.declared.option.Option.TheVariants.{Some, None}
 use Rattle.image.specs.Trailer.{node_count}
 use Rattle.image.specs.Nodes.{node_word}
 use Rattle.image.specs.Records.{method_word}
@@ -23,6 +25,11 @@ class_of e = e / 65536 % 512
 
 abbrev pub node_of : ℕ → ℕ
 node_of e = e / 65536 / 512
+
+-- the class word of an entry: 1 more than the class, or 0 for none
+abbrev pub class_word : Option ℕ → ℕ
+class_word None = 0
+class_word (Some c) = c + 1
 
 -- a Get or a Set
 abbrev pub IsField : (ws : List ℕ) (p : ℕ) → Type 0
@@ -57,3 +64,9 @@ module _ (ws : List ℕ) where
   pub record Memo (memo : List ℕ) : Type 0 where
     pub size : length memo ≡ memo_words
     pub entries : (k : ℕ) → k < memo_words → Entry (get_or memo k 0)
+
+-- what a table keeps of node p and the class of a slot's word, whatever image it is true of
+pub record Recalls (memo : List ℕ) (p first o : ℕ) : Type 0 where
+  pub few : o < 65536
+  pub some : o ≡ 0 → ⊥
+  pub learnt : (ws : List ℕ) → Memo ws memo → Learnt ws p first o

@@ -1,5 +1,5 @@
 -- Laws of what is kept.
-use Rattle.std.specs.Prelude.{◌≡◌, refl, true, false, ◌&&◌, List, ◌⊎◌, ℕ, suc, ◌+◌, ◌*◌, ◌-◌, ◌/◌, ◌%◌, ◌≤◌, ◌<◌, eqb, length, get_or, set}
+use Rattle.std.specs.Prelude.{◌≡◌, refl, true, false, ◌&&◌, List, ◌⊎◌, ℕ, ◌+◌, ◌*◌, ◌-◌, ◌/◌, ◌%◌, ◌≤◌, ◌<◌, eqb, length, get_or, set, IfSome}
 use Rattle.std.proofs.Common.{sym, ◌∙◌, inl, inr, arith, length-set, get_or-set_same, get_or-set_other, eqb-true}
 use Rattle.std.proofs.Math.Option.{some}
 use Rattle.std.proofs.Math.Decide.{ℕ_discrete}
@@ -20,12 +20,14 @@ use Rattle.laws.specs.Tags.{address_at, address_small}
 use Rattle.classes.specs.Sees.{MethodAt}
 use Rattle.objects.specs.Spots.{FieldSpot}
 use Rattle.objects.specs.SpotLaws.{index_in, spot_some}
-use Rattle.redexes.specs.declared.Catch.TheVariants.{Catches, Passes}
+use Rattle.std.specs.declared.option.Option.{Option}
+use Rattle.std.specs.declared.option.Option.TheVariants.{Some, None}
+use Rattle.heap.specs.Slots.{class_at}
 use Rattle.redexes.specs.Outcomes.{EntersAt, Tries}
 use Rattle.redexes.specs.RedexLaws.{object_class, call_enters, catch_below, catch_other}
 use Rattle.room.specs.Nodes.{get_name, get_class, set_name, set_class}
 use Rattle.room.specs.Room.{IsNode}
-use Rattle.memo.specs.Memo.{memo_words, found_of, class_of, node_of, IsField, Judges, Learnt, Entry, Memo}
+use Rattle.memo.specs.Memo.{memo_words, found_of, class_of, class_word, node_of, IsField, Judges, Learnt, Entry, Memo}
 
 -- a table of zeros
 pub memo_empty : (ws memo : List ℕ) → length memo ≡ memo_words → ((k : ℕ) → k < memo_words → get_or memo k 0 ≡ 0) → Memo ws memo
@@ -65,33 +67,58 @@ module _ (ws : List ℕ) (p first o : ℕ) (c : first < 512) (u : o < 65536) whe
       go j i (yes q) = rw (← q, get_or-set_same memo k e 0 (rw m.size h)) (entry_written l)
       go j i (no n) = rw (get_or-set_other memo k j e 0 (λ z. n (sym z))) (m.entries j i)
 
--- What is kept, of the heap at hand.
-module _ (ws hs : List ℕ) (k : Words (program ws) (class_count ws) hs) (p first o : ℕ) (l : Learnt ws p first o) where
-  pub learnt_spot : (w : ℕ) → IsValue w → w / 4294967296 ≡ 4 → first ≡ get_or hs (slot_words * (w % 4294967296)) 0 → (o ≡ 0 → ⊥) → IsField ws p
+-- The object that a value is the address of, by its slot's class.
+pub receiver_is : (r : Option ℕ) (hs : List ℕ) (w : ℕ) → w / 4294967296 ≡ 4 → r ≡ class_at hs (w % 4294967296)
+    → IfSome r (λ c. (w / 4294967296 ≡ 4) × (class_at hs (w % 4294967296) ≡ Some c))
+receiver_is None hs w t e = tt
+receiver_is (Some c) hs w t e = (t, sym e)
+
+-- the class that a class word is 1 above
+above : (c : ℕ) → c + 1 - 1 ≡ c
+above c = omega arith
+
+-- What is kept, of the heap at hand. Of no class nothing is kept.
+module _ (ws hs : List ℕ) (k : Words (program ws) (class_count ws) hs) (p o : ℕ) where
+  pub learnt_spot : (r : Option ℕ) → Learnt ws p (class_word r) o → (w : ℕ) → IsValue w
+      → IfSome r (λ c. (w / 4294967296 ≡ 4) × (class_at hs (w % 4294967296) ≡ Some c)) → (o ≡ 0 → ⊥) → IsField ws p
       → FieldSpot ws hs (node_word ws p 2) (node_word ws p 3) w (16 * (w % 4294967296) + o)
-  learnt_spot w v t e d f =
+  learnt_spot None l w v i d f = absurd (l.taken refl)
+  learnt_spot (Some c) l w v i d f =
       let a = w % 4294967296 in
-      let z : get_or hs (slot_words * a) 0 ≡ suc (first - 1) = omega (arith, l.taken) in
       let q : slot_words * a + 1 + (o - 1) ≡ 16 * a + o = omega arith in
-      rw q at (spot_some ws hs (node_word ws p 2) (node_word ws p 3) w k a (address_at w v t) (first - 1) z (o - 1) (l.field f))
+      rw q at
+      (spot_some ws hs (node_word ws p 2) (node_word ws p 3) w k a (address_at w v i.0) c i.1 (o - 1) (rw (above c) at (l.field f)))
 
-  pub learnt_method : (w : ℕ) → IsValue w → w / 4294967296 ≡ 4 → first ≡ get_or hs (slot_words * (w % 4294967296)) 0 → IsNode ws p 9
+  pub learnt_method : (r : Option ℕ) → Learnt ws p (class_word r) o → (w : ℕ) → IsValue w
+      → IfSome r (λ c. (w / 4294967296 ≡ 4) × (class_at hs (w % 4294967296) ≡ Some c)) → IsNode ws p 9
       → EntersAt ws hs (node_word ws p 2) (node_word ws p 3) (value_at w) (w % 4294967296) (o - 1)
-  learnt_method w v t e n =
-      let m = l.call n in
-      rw (address_at w v t)
-      (call_enters ws hs k (w % 4294967296) first e (node_word ws p 2) (node_word ws p 3) (method_word ws (o - 1) 0) (o - 1) l.taken m.sees
-      (address_small w v t) m.arguments)
+  learnt_method None l w v i n = absurd (l.taken refl)
+  learnt_method (Some c) l w v i n =
+      let m = rw (above c) at (l.call n) in
+      rw (address_at w v i.0)
+      (call_enters ws hs k (w % 4294967296) (node_word ws p 2) (node_word ws p 3) c i.1 (method_word ws (o - 1) 0) (o - 1) m.sees
+      (address_small w v i.0) m.arguments)
 
-  module _ (a : ℕ) (e : first ≡ get_or hs (slot_words * a) 0) (n : IsNode ws p 15) where
-    pub learnt_passes : o ≡ 1 → Tries ws hs (node_word ws p 2) a Passes
-    learnt_passes z = catch_other ws hs k a first e (node_word ws p 2) l.taken ((l.catch n).passes z)
+  module _ (r : Option ℕ) (l : Learnt ws p (class_word r) o) (a : ℕ) (e : r ≡ class_at hs a) (n : IsNode ws p 15) where
+    pub learnt_passes : o ≡ 1 → Tries ws hs (node_word ws p 2) a (Some false)
+    learnt_passes z = go r l e
+      where
+        go : (r : Option ℕ) → Learnt ws p (class_word r) o → r ≡ class_at hs a → Tries ws hs (node_word ws p 2) a (Some false)
+        go None l e = absurd (l.taken refl)
+        go (Some c) l e = catch_other ws hs k a c (node_word ws p 2) (sym e) (rw (above c) at ((l.catch n).passes z))
 
-    pub learnt_catches : o ≡ 2 → Tries ws hs (node_word ws p 2) a Catches
-    learnt_catches z = catch_below ws hs k a first e (node_word ws p 2) l.taken ((l.catch n).catches z)
+    pub learnt_catches : o ≡ 2 → Tries ws hs (node_word ws p 2) a (Some true)
+    learnt_catches z = go r l e
+      where
+        go : (r : Option ℕ) → Learnt ws p (class_word r) o → r ≡ class_at hs a → Tries ws hs (node_word ws p 2) a (Some true)
+        go None l e = absurd (l.taken refl)
+        go (Some c) l e = catch_below ws hs k a c (node_word ws p 2) (sym e) (rw (above c) at ((l.catch n).catches z))
 
 -- What is found is true of the class.
-module _ (ws : List ℕ) (p first : ℕ) (d : first ≡ 0 → ⊥) where
+module _ (ws : List ℕ) (p d : ℕ) where
+  taken_above : d + 1 ≡ 0 → ⊥
+  taken_above z = omega (arith, z)
+
   -- neither a Call nor a Try is a Get or a Set
   no_field : (k : ℕ) → 8 < k → node_word ws p 0 ≡ k → IsField ws p → ⊥
   no_field k h e f = go f.1
@@ -101,42 +128,42 @@ module _ (ws : List ℕ) (p first : ℕ) (d : first ≡ 0 → ⊥) where
       go (inr z) = omega arith
 
   pub keeps_field : IsField ws p → Lower (program ws) → (name c i : ℕ) → name ≡ node_word ws p 2 → c ≡ node_word ws p 3
-      → some i ≡ field_index (has_fields (program ws) c) c name → subclass (program ws) (first - 1) c ≡ true → Learnt ws p first (i + 1)
+      → some i ≡ field_index (has_fields (program ws) c) c name → subclass (program ws) d c ≡ true → Learnt ws p (d + 1) (i + 1)
   keeps_field f low name c i en ec e s =
       let x : i + 1 - 1 ≡ i = omega arith in
-      let q : field_index (has_fields (program ws) (first - 1)) c name ≡ some i = index_in (program ws) c name low (first - 1) ∙ rw (s, ← e) in
+      let q : field_index (has_fields (program ws) d) c name ≡ some i = index_in (program ws) c name low d ∙ rw (s, ← e) in
       record {
-        taken = d;
-        field = λ g. rw (x, ← en, ← ec) q;
+        taken = taken_above;
+        field = λ g. rw (above d, x, ← en, ← ec) q;
         call = λ n. absurd (no_field 9 (omega arith) n.1 f);
         catch = λ n. absurd (no_field 15 (omega arith) n.1 f);
       }
 
-  pub keeps_method : IsNode ws p 9 → (name c j : ℕ) → name ≡ node_word ws p 2 → MethodAt ws (first - 1) name c j
-      → method_word ws j 4 ≡ node_word ws p 3 → Learnt ws p first (j + 1)
+  pub keeps_method : IsNode ws p 9 → (name c j : ℕ) → name ≡ node_word ws p 2 → MethodAt ws d name c j
+      → method_word ws j 4 ≡ node_word ws p 3 → Learnt ws p (d + 1) (j + 1)
   keeps_method n name c j en m a =
       let x : j + 1 - 1 ≡ j = omega arith in
       record {
-        taken = d;
+        taken = taken_above;
         field = λ f. absurd (no_field 9 (omega arith) n.1 f);
-        call = λ z. rw x (record { sees = rw (m.owner, ← en) m; arguments = a });
+        call = λ z. rw (above d, x) (record { sees = rw (m.owner, ← en) m; arguments = a });
         catch = λ z. absurd (omega (arith, n.1, z.1));
       }
 
   module _ (n : IsNode ws p 15) (c : ℕ) (e : c ≡ node_word ws p 2) where
-    keeps_try : (o : ℕ) → Judges ws p (first - 1) o → Learnt ws p first o
+    keeps_try : (o : ℕ) → Judges ws p d o → Learnt ws p (d + 1) o
     keeps_try o j =
         record {
-          taken = d;
+          taken = taken_above;
           field = λ f. absurd (no_field 15 (omega arith) n.1 f);
           call = λ z. absurd (omega (arith, n.1, z.1));
-          catch = λ z. j;
+          catch = λ z. rw (above d) j;
         }
 
-    pub keeps_catch : subclass (program ws) (first - 1) c ≡ true → Learnt ws p first 2
+    pub keeps_catch : subclass (program ws) d c ≡ true → Learnt ws p (d + 1) 2
     keeps_catch s = keeps_try 2 (record { passes = λ z. absurd (omega arith); catches = λ z. rw (← e) s })
 
-    pub keeps_pass : subclass (program ws) (first - 1) c ≡ false → Learnt ws p first 1
+    pub keeps_pass : subclass (program ws) d c ≡ false → Learnt ws p (d + 1) 1
     keeps_pass s = keeps_try 1 (record { passes = λ z. rw (← e) s; catches = λ z. absurd (omega arith) })
 
 -- a Get's or a Set's name and class
@@ -160,6 +187,5 @@ module _ (ws : List ℕ) (l : Layout) (g : Good ws l) where
   pub node_small : (p : ℕ) → p < node_count ws → p < most_nodes
   node_small p h = omega (arith, g.lay.node_count_lem, g.small.nodes)
 
-  pub class_small : (hs : List ℕ) → Words (program ws) (class_count ws) hs → (a first : ℕ) → first ≡ get_or hs (slot_words * a) 0
-      → (first ≡ 0 → ⊥) → first < 512
-  class_small hs k a first e n = omega (arith, object_class ws hs l g k a first e n, g.small.classes)
+  pub class_small : (hs : List ℕ) → Words (program ws) (class_count ws) hs → (a c : ℕ) → class_at hs a ≡ Some c → c < 511
+  class_small hs k a c e = omega (arith, object_class ws hs l g k a c e, g.small.classes)

@@ -5,11 +5,16 @@ use Rattle.order.specs.Rules.{answer_of}
 use Rattle.rules.specs.Run.{Ended, run_of, heap_after}
 use Rattle.rules.specs.Numbers.{check_rules, conform_rules, run_rules, end_numbers}
 use Rattle.run.specs.Answers.{end_word}
+use Rattle.run.specs.declared.Told.{Told}
 use Rattle.muthaveri.specs.declared.MuthaveriAnswer.{MuthaveriAnswer}
 
 -- a number and a place, with no count and no word
 abbrev pub of_answer : Answer → MuthaveriAnswer
 of_answer a = record { number = a.number; place = a.place; count = 0; value = 0 }
+
+-- the four numbers that are told of a run
+abbrev pub of_told : Told → MuthaveriAnswer
+of_told t = record { number = t.number; place = t.place; count = t.count; value = t.value }
 
 -- an end: its number and place, the steps taken, and the word that it carries
 abbrev pub of_ended : Ended → MuthaveriAnswer

@@ -2,35 +2,29 @@
 use Rattle.std.specs.Prelude.{◌≡◌, false, List, ℕ, eqb}
 use Rattle.std.proofs.Common.{sym, ◌∙◌, ne_eqb}
 use Rattle.refusals.specs.declared.Refusal.{Refusal}
-use Rattle.run.specs.declared.Told.{Told}
-use Rattle.run.specs.declared.Ran.{Ran}
-use Rattle.run.specs.declared.Ran.TheVariants.{Refused, Ended as Over}
+use Rattle.std.specs.declared.result.Result.TheVariants.{Ok, Err}
 use Rattle.refusals.specs.Refusals.{refusal_numbers}
-use Rattle.run.specs.Answers.{told_of, Answers}
+use Rattle.run.specs.Answers.{Ran, told_of, Answers}
 use Rattle.run.specs.Promise.{never_accepted}
 use Rattle.muthaveri.specs.declared.MuthaveriAnswer.{MuthaveriAnswer}
-use Rattle.muthaveri.specs.Answers.{check_answer, conform_answer, run_answer, heap_left, room_left, RunAnswers}
+use Rattle.muthaveri.specs.Answers.{of_told, check_answer, conform_answer, run_answer, heap_left, room_left, RunAnswers}
 
 -- no refusal has the number 0
 refusal_told : (f : Refusal) → eqb (refusal_numbers f).number 0 ≡ false
 refusal_told f = ne_eqb _ 0 (never_accepted f)
 
--- the same four numbers
-abbrev pub outside : Told → MuthaveriAnswer
-outside t = record { number = t.number; place = t.place; count = t.count; value = t.value }
-
 module _ (ws hs is lent : List ℕ) (steps depth : ℕ) where
   -- an answer of the run, told in numbers, meets the promise
   pub meets : (a : Ran) (heap room : List ℕ) → Answers ws hs is lent steps depth a heap room
-      → RunAnswers ws hs is lent steps depth (outside (told_of a)) heap room
+      → RunAnswers ws hs is lent steps depth (of_told (told_of a)) heap room
   unfolding run_answer heap_left room_left
-  meets (Refused f) heap room p =
+  meets (Err f) heap room p =
       record {
         answer = rw (sym p.numbers, refusal_told f);
         heap = rw (sym p.numbers, refusal_told f) p.heap;
         room = rw (sym p.numbers, refusal_told f) p.room;
       }
-  meets (Over e k) heap room p =
+  meets (Ok r) heap room p =
       record {
         answer = rw (p.sound, p.end, p.count);
         heap = rw p.sound p.heap;

@@ -3,12 +3,14 @@
 #![tactic(auto)]
 
 ghost use Rattle.std.specs.Prelude.{◌≡◌, length};
-ghost use Rattle.muthaveri.specs.Answers.{of_answer, check_answer, conform_answer, RunAnswers};
+ghost use Rattle.muthaveri.specs.Answers.{of_answer, of_told, check_answer, conform_answer, RunAnswers};
 
 use order::Answer;
+use run::Told;
 
 // The paper's number and place. Of a run that was not refused also the steps that it took, and the word of the value or address that its
-// end carries. Where there is no such count or word, it is 0.
+// end carries. Where there is no such count or word, it is 0. It is `run::Told` in the form that C sees: the header names it, and `run`
+// knows nothing of C.
 #[repr(C)]
 #[derive(Clone, Copy)]
 pub struct MuthaveriAnswer {
@@ -19,14 +21,30 @@ pub struct MuthaveriAnswer {
 }
 
 // A number and a place, with no count and no word.
-fn told(a: Answer) -> MuthaveriAnswer
-    ensures { result ≡ of_answer a }
-{
-    MuthaveriAnswer {
-        number: a.number,
-        place: a.place,
-        count: 0,
-        value: 0,
+impl From<Answer> for MuthaveriAnswer {
+    ghost from_gives = { λ a result. result ≡ of_answer a };
+
+    fn from(a: Answer) -> MuthaveriAnswer {
+        MuthaveriAnswer {
+            number: a.number,
+            place: a.place,
+            count: 0,
+            value: 0,
+        }
+    }
+}
+
+// The same four numbers.
+impl From<Told> for MuthaveriAnswer {
+    ghost from_gives = { λ t result. result ≡ of_told t };
+
+    fn from(t: Told) -> MuthaveriAnswer {
+        MuthaveriAnswer {
+            number: t.number,
+            place: t.place,
+            count: t.count,
+            value: t.value,
+        }
     }
 }
 
@@ -34,14 +52,14 @@ fn told(a: Answer) -> MuthaveriAnswer
 pub fn muthaveri_check(image: &[u32]) -> MuthaveriAnswer
     ensures { result ≡ check_answer image.now }
 {
-    told(image_check::check_answer(image))
+    MuthaveriAnswer::from(image_check::check_answer(image))
 }
 
 // Do this heap and these inputs fit the image?
 pub fn muthaveri_conform(image: &[u32], heap: &[u64], inputs: &[u64]) -> MuthaveriAnswer
     ensures { result ≡ conform_answer image.now heap.now inputs.now }
 {
-    told(conform::conformity(image, heap, inputs))
+    MuthaveriAnswer::from(conform::conformity(image, heap, inputs))
 }
 
 // The run of the image on the heap, with main's inputs, in lent room: at most so many steps, and at most so deep. A refusal changes no
@@ -56,11 +74,6 @@ pub fn muthaveri_run(
 ) -> MuthaveriAnswer
     ensures { RunAnswers image.now heap.old inputs.now room.old steps depth result heap.new room.new }
 {
-    let t = run::numbers_of(run::run(image, heap, inputs, room, steps, depth));
-    MuthaveriAnswer {
-        number: t.number,
-        place: t.place,
-        count: t.count,
-        value: t.value,
-    }
+    let told = Told::from(run::run(image, heap, inputs, room, steps, depth));
+    MuthaveriAnswer::from(told)
 }

@@ -1,8 +1,13 @@
--- Types as words: an environment of 64 words, what the typing of a node and of an operand list answers, and what a node binds.
-use Rattle.std.specs.Prelude.{ℕ, zero, suc, ◌+◌, ◌≤◌, ◌<◌, ◌≡◌, Bool, true, false, cond, List, [], ◌∷◌, length, get_or, set}
+-- The types of the 64 variables, what the typing of a node and of an operand list answers, and what a node binds.
+use Rattle.std.specs.Prelude.{ℕ, zero, suc, ◌≡◌, Bool, true, false, List, [], ◌∷◌, length, get_or, set}
 use Rattle.std.proofs.Math.Option.{Option, none, some}
+use Rattle.std.specs.declared.option.Option.{Option as Maybe}
+use Rattle.std.specs.declared.option.Option.TheVariants.{Some, None}
+use Rattle.std.specs.declared.result.Result.{Result}
+use Rattle.std.specs.declared.result.Result.TheVariants.{Ok, Err}
 use Rattle.words.specs.declared.Ty.{Ty}
-use Rattle.words.specs.Types.{type_of}
+use Rattle.words.specs.declared.Ty.TheVariants.{Void, Boolean, Integer, NT, Class}
+use Rattle.words.specs.Types.{type_of, known}
 use Rattle.image.specs.declared.Kind.{Kind}
 use Rattle.image.specs.declared.Kind.TheVariants.{New, Cast, Value as Literal, Var, Add, Eq, Assign, Get, Set, Call, Block, Seq, If, While, Throw, Try, Unknown}
 use Rattle.image.specs.Numbers.{variables}
@@ -15,67 +20,76 @@ use Rattle.rules.specs.Typing.{Res, ok, bad, ◌>>=◌, typing}
 use Rattle.rules.specs.Trees.{tree, operand, place}
 use Rattle.laws.specs.Trees.{operand_count}
 use Rattle.node_rules.specs.Node.{node_rule, operand_types}
-use Rattle.node_rules.specs.declared.Typed.{Typed}
-use Rattle.node_rules.specs.declared.Typed.TheVariants.{Is, Not}
-use Rattle.node_rules.specs.declared.Types.{Types}
 
--- a variable's word: 0 where it has no type, and else a type word and 1
-unfoldable pub entry : ℕ → Option Ty
-entry zero = none
-entry (suc t) = some (type_of t)
+-- the type that a variable has, if it has one; a number that is no variable has none
+unfoldable pub entry : Maybe Ty → Option Ty
+entry None = none
+entry (Some t) = some t
 
-unfoldable pub env_of : List ℕ → Env
-env_of env x = entry (get_or env x 0)
+unfoldable pub env_of : List (Maybe Ty) → Env
+env_of env x = entry (get_or env x None)
 
 -- no variable has a type: for premises that ask none
 abbrev pub nowhere : Env
 nowhere x = none
 
--- the words below this name types of the image
-abbrev pub type_words : List ℕ → ℕ
-type_words ws = 4 + class_count ws
+-- the image has the type: a class is one of its own
+abbrev pub Has : List ℕ → Ty → Type 0
+Has ws t = known t (class_count ws) ≡ true
 
-pub record EnvOk (ws env : List ℕ) : Type 0 where
+abbrev pub MayHave : List ℕ → Maybe Ty → Type 0
+MayHave ws (Some t) = Has ws t
+MayHave ws None = Unit {0}
+
+pub record EnvOk (ws : List ℕ) (env : List (Maybe Ty)) : Type 0 where
   pub size : length env ≡ variables
-  pub types : (x : ℕ) → get_or env x 0 ≤ type_words ws
+  pub types : (x : ℕ) → MayHave ws (get_or env x None)
 
 -- what an answer says, and that a type is one of the image
-abbrev pub res_ty : Typed → Res Ty
-res_ty (Is t) = ok (type_of t)
-res_ty (Not p) = bad p
+abbrev pub res_ty : Result Ty ℕ → Res Ty
+res_ty (Ok t) = ok t
+res_ty (Err p) = bad p
 
-abbrev pub Known : List ℕ → Typed → Type 0
-Known ws (Is t) = t < type_words ws
-Known ws (Not p) = Unit {0}
+abbrev pub Known : List ℕ → Result Ty ℕ → Type 0
+Known ws (Ok t) = Has ws t
+Known ws (Err p) = Unit {0}
 
-pub record Answers (ws : List ℕ) (r : Typed) (s : Res Ty) : Type 0 where
+pub record Answers (ws : List ℕ) (r : Result Ty ℕ) (s : Res Ty) : Type 0 where
   pub says : res_ty r ≡ s
   pub known : Known ws r
 
--- the type t if a premise of the node at n holds
-unfoldable pub decided : Bool → (n t : ℕ) → Typed
-decided true n t = Is t
-decided false n t = Not n
-
 -- the type of a written value, by its tag
-unfoldable pub literal_word : ℕ → ℕ
-literal_word x = get_or (0 ∷ 3 ∷ 1 ∷ 2 ∷ []) x 0
+unfoldable pub literal_type : ℕ → Ty
+literal_type x = get_or (Void ∷ NT ∷ Boolean ∷ Integer ∷ []) x Void
 
--- the first k words as types
-unfoldable pub types_of : (k : ℕ) → List ℕ → List Ty
-types_of k types = tabulate k (λ i. type_of (get_or types i 0))
+-- whether a type is one of objects, which is a class
+abbrev pub is_object : Ty → Bool
+is_object Void = false
+is_object Boolean = false
+is_object Integer = false
+is_object NT = false
+is_object (Class c) = true
 
--- every word names a type of the image
-abbrev pub AllKnown : List ℕ → List ℕ → Type 0
-AllKnown ws types = (i : ℕ) → get_or types i 0 < type_words ws
+-- the first k types
+unfoldable pub types_of : (k : ℕ) → List Ty → List Ty
+types_of k types = tabulate k (λ i. get_or types i Void)
+
+-- the image has them all
+abbrev pub AllHave : List ℕ → List Ty → Type 0
+AllHave ws types = (i : ℕ) → Has ws (get_or types i Void)
 
 -- the same for a list of k operands
-abbrev pub res_tys : (k : ℕ) → Types → Res (List Ty)
-res_tys k r = cond r.ok (ok (types_of k r.types)) (bad r.place)
+abbrev pub res_tys : (k : ℕ) → Result (List Ty) ℕ → Res (List Ty)
+res_tys k (Ok types) = ok (types_of k types)
+res_tys k (Err p) = bad p
 
-pub record Lists (ws : List ℕ) (k : ℕ) (r : Types) (s : Res (List Ty)) : Type 0 where
+abbrev pub Listed : List ℕ → Result (List Ty) ℕ → Type 0
+Listed ws (Ok types) = AllHave ws types
+Listed ws (Err p) = Unit {0}
+
+pub record Lists (ws : List ℕ) (k : ℕ) (r : Result (List Ty) ℕ) (s : Res (List Ty)) : Type 0 where
   pub says : res_tys k r ≡ s
-  pub known : AllKnown ws r.types
+  pub known : Listed ws r
 
 -- WHAT A NODE BINDS
 -- The variable that a node binds for its last operand; where it binds none, a number that no variable has.
@@ -98,54 +112,54 @@ bound_var Throw x y = variables
 bound_var Try x y = y
 bound_var Unknown x y = variables
 
--- the word of its type
-unfoldable pub bound_word : Kind → (x y : ℕ) → ℕ
-bound_word New x y = 0
-bound_word Cast x y = 0
-bound_word Literal x y = 0
-bound_word Var x y = 0
-bound_word Add x y = 0
-bound_word Eq x y = 0
-bound_word Assign x y = 0
-bound_word Get x y = 0
-bound_word Set x y = 0
-bound_word Call x y = 0
-bound_word Block x y = suc y
-bound_word Seq x y = 0
-bound_word If x y = 0
-bound_word While x y = 0
-bound_word Throw x y = 0
-bound_word Try x y = 5 + x
-bound_word Unknown x y = 0
+-- and its type, which is Void where nothing is bound
+unfoldable pub bound_type : Kind → (x y : ℕ) → Ty
+bound_type New x y = Void
+bound_type Cast x y = Void
+bound_type Literal x y = Void
+bound_type Var x y = Void
+bound_type Add x y = Void
+bound_type Eq x y = Void
+bound_type Assign x y = Void
+bound_type Get x y = Void
+bound_type Set x y = Void
+bound_type Call x y = Void
+bound_type Block x y = type_of y
+bound_type Seq x y = Void
+bound_type If x y = Void
+bound_type While x y = Void
+bound_type Throw x y = Void
+bound_type Try x y = Class x
+bound_type Unknown x y = Void
 
 -- an operand's variable: that of the node for the last operand, and none for the others
 unfoldable pub operand_var : List ℕ → (n j : ℕ) → ℕ
 operand_var ws n zero = bound_var (kind_of (node_word ws n 0)) (node_word ws n 2) (node_word ws n 3)
 operand_var ws n (suc j) = variables
 
-unfoldable pub operand_word : List ℕ → (n : ℕ) → ℕ
-operand_word ws n = bound_word (kind_of (node_word ws n 0)) (node_word ws n 2) (node_word ws n 3)
+unfoldable pub operand_type : List ℕ → (n : ℕ) → Ty
+operand_type ws n = bound_type (kind_of (node_word ws n 0)) (node_word ws n 2) (node_word ws n 3)
 
 -- the environment of operand j
-unfoldable pub operand_env : List ℕ → (n j : ℕ) → List ℕ → List ℕ
-operand_env ws n j env = set env (operand_var ws n j) (operand_word ws n)
+unfoldable pub operand_env : List ℕ → (n j : ℕ) → List (Maybe Ty) → List (Maybe Ty)
+operand_env ws n j env = set env (operand_var ws n j) (Some (operand_type ws n))
 
 -- WHAT THE FUNCTIONS FIND
 -- the typing of operand j, of all operands, and what a node makes of them
-unfoldable pub operand_typing : List ℕ → (n j : ℕ) → List ℕ → Res Ty
+unfoldable pub operand_typing : List ℕ → (n j : ℕ) → List (Maybe Ty) → Res Ty
 operand_typing ws n j env = typing (program ws) (tree ws (operand ws n j)) (env_of (operand_env ws n j env))
 
-unfoldable pub operands_typing : List ℕ → (n : ℕ) → List ℕ → Res (List Ty)
+unfoldable pub operands_typing : List ℕ → (n : ℕ) → List (Maybe Ty) → Res (List Ty)
 operands_typing ws n env =
     operand_types (program ws) (env_of env) (env_of (operand_env ws n 0 env)) (λ j. tree ws (operand ws n j)) (operand_count ws n)
 
-unfoldable pub rule_of : List ℕ → (n : ℕ) → List ℕ → Res (List Ty) → Res Ty
+unfoldable pub rule_of : List ℕ → (n : ℕ) → List (Maybe Ty) → Res (List Ty) → Res Ty
 rule_of ws n env r =
     r >>= node_rule (program ws) (env_of env) (kind_of (node_word ws n 0)) n (node_word ws n 2) (node_word ws n 3)
 
 -- a body's type, below the result of its method; main has no result to be below
-unfoldable pub within : Program → (n u : ℕ) → Res Ty → Res Ty
-within P n u r = bounded P (some (type_of u)) n r
+unfoldable pub within : Program → (n : ℕ) → (u : Ty) → Res Ty → Res Ty
+within P n u r = bounded P (some u) n r
 
 unfoldable pub method_typing : List ℕ → ℕ → Res Ty
 method_typing ws i =

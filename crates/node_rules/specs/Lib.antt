@@ -1,4 +1,4 @@
--- Environments and answers as words, and what the typing of one node asks of its operands' types.
+-- Environments and answers, and what the typing of one node asks of its operands' types.
 pub mod Env
 pub mod Node
 pub mod EnvLaws

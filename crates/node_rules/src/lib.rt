@@ -1,217 +1,180 @@
-// The type of one node, from the types of its operands: the rules of figure 1.
-// A type is its word: 0 Void, 1 Boolean, 2 Integer, 3 the null type, and 4 + c class c.
+// The type of one node, from the types of its operands: the rules of figure 1. Each gives the node's type, or none where the node breaks
+// a premise of its own.
 #![tactic(auto)]
 
-ghost use Rattle.std.specs.Prelude.{◌≡◌, true, ◌&&◌, [], ◌∷◌, suc, ◌+◌, ◌≤◌, ◌<◌, get_or, eqb, leb};
-ghost use Rattle.words.specs.Types.{type_of};
+ghost use Rattle.std.specs.Prelude.{◌≡◌, ◌&&◌, List, [], ◌∷◌, ℕ, suc, ◌+◌, ◌≤◌, ◌<◌, length, get_or, ok_or};
+ghost use Rattle.words.specs.declared.Ty.TheVariants.{Void, Boolean, Integer};
 ghost use Rattle.image.specs.declared.Kind.TheVariants.{Cast, Var, Eq, Assign, Get, Set, Call};
 ghost use Rattle.image.specs.Numbers.{variables, most_arguments, highest_name, written_tags};
 ghost use Rattle.image.specs.Trailer.{class_count};
-ghost use Rattle.image.specs.Layout.{Good};
+ghost use Rattle.std.specs.Bool.{then_some};
 ghost use Rattle.rules.specs.Maps.{tabulate};
 ghost use Rattle.rules.specs.Program.{program, types_from};
-ghost use Rattle.rules.specs.Classes.{subtypes};
-ghost use Rattle.node_rules.specs.Env.{type_words, env_of, EnvOk, Answers, AllKnown, decided, literal_word, nowhere, types_of};
+ghost use Rattle.rules.specs.Classes.{subtypes, same_type};
+ghost use Rattle.node_rules.specs.Env.{Has, AllHave, env_of, EnvOk, Answers, literal_type, is_object, nowhere, types_of};
 ghost use Rattle.node_rules.specs.Node.{node_rule};
 
-use classes::{Members, Seen};
-use image::Layout;
-use words::{BOOLEAN, FIRST_CLASS, INTEGER, NULL_TYPE, VOID};
+use classes::Members;
+use image::Image;
+use words::Ty;
 
 // What the typing of a node finds: its type, or the place of the first node that has none.
-#[derive(Clone, Copy)]
-pub enum Typed {
-    Is(u32),
-    Not(usize),
-}
+pub type Typed = Result<Ty, usize>;
 
-// The types of a node's operands, first to last, or the place of the first node among them that has none.
-#[derive(Clone, Copy)]
-pub struct Types {
-    pub ok: bool,
-    pub place: usize,
-    pub types: [u32; 9],
-}
-
-// Type t, if node n's premise holds.
-pub fn decide(b: bool, n: usize, t: u32) -> Typed
-    ensures { result ≡ decided b n t }
-{
-    if b { Typed::Is(t) } else { Typed::Not(n) }
-}
+// The types of a node's operands, first to last, or the place of the first node among them that has none. A Vec would take memory from a
+// heap: no node has more than nine operands, and its kind says how many.
+pub type Types = Result<[Ty; 9], usize>;
 
 // The type of a written value, by its tag.
-pub fn literal_rule(x: u32) -> u32
+#[tactic(auto, unfolding(crate::specs::Env::literal_type))]
+pub fn literal_rule(x: u32) -> Ty
     requires { x < written_tags }
-    ensures { result ≡ literal_word x }
+    ensures { result ≡ literal_type x }
 {
     match x {
-        0 => VOID,
-        1 => NULL_TYPE,
-        2 => BOOLEAN,
-        _ => INTEGER,
+        0 => Ty::Void,
+        1 => Ty::NT,
+        2 => Ty::Boolean,
+        _ => Ty::Integer,
     }
 }
 
-pub fn add_rule(n: usize, a: u32, b: u32) -> Typed
-    ensures { result ≡ decided (eqb a 2 && eqb b 2) n 2 }
+pub fn add_rule(a: Ty, b: Ty) -> Option<Ty>
+    ensures { result ≡ then_some (same_type a Integer && same_type b Integer) Integer }
 {
-    decide((a == INTEGER) & (b == INTEGER), n, INTEGER)
+    (classes::same_type(a, Ty::Integer) && classes::same_type(b, Ty::Integer)).then_some(
+        Ty::Integer,
+    )
 }
 
 // Both arms have the same type.
-pub fn if_rule(n: usize, test: u32, a: u32, b: u32) -> Typed
-    ensures { result ≡ decided (eqb test 1 && eqb a b) n a }
+pub fn if_rule(test: Ty, a: Ty, b: Ty) -> Option<Ty>
+    ensures { result ≡ then_some (same_type test Boolean && same_type a b) a }
 {
-    decide((test == BOOLEAN) & (a == b), n, a)
+    (classes::same_type(test, Ty::Boolean) && classes::same_type(a, b)).then_some(a)
 }
 
-pub fn while_rule(n: usize, test: u32) -> Typed
-    ensures { result ≡ decided (eqb test 1) n 0 }
+pub fn while_rule(test: Ty) -> Option<Ty>
+    ensures { result ≡ then_some (same_type test Boolean) Void }
 {
-    decide(test == BOOLEAN, n, VOID)
+    classes::same_type(test, Ty::Boolean).then_some(Ty::Void)
 }
 
 // Any object may be thrown. A Throw says itself what type it has.
-pub fn throw_rule(n: usize, t: u32, x: u32) -> Typed
-    ensures { result ≡ decided (leb 4 t) n x }
+pub fn throw_rule(t: Ty, own: Ty) -> Option<Ty>
+    ensures { result ≡ then_some (is_object t) own }
 {
-    decide(FIRST_CLASS <= t, n, x)
+    matches!(t, Ty::Class(_)).then_some(own)
 }
 
-pub fn try_rule(n: usize, a: u32, b: u32) -> Typed
-    ensures { result ≡ decided (eqb a b) n a }
+pub fn try_rule(a: Ty, b: Ty) -> Option<Ty>
+    ensures { result ≡ then_some (same_type a b) a }
 {
-    decide(a == b, n, a)
+    classes::same_type(a, b).then_some(a)
 }
 
 // A cast goes up or down.
-pub fn cast_rule(ws: &[u32], l: Layout, n: usize, x: u32, t: u32) -> Typed
-    requires { Good ws.now l × (x < class_count ws.now) × (t < type_words ws.now) }
-    ensures { Answers ws.now result (node_rule (program ws.now) nowhere Cast n x 0 (type_of t ∷ [])) }
+#[tactic(auto, using(crate::specs::RuleLaws::cast_none, crate::specs::RuleLaws::cast_class))]
+pub fn cast_rule(image: &Image, x: u32, t: Ty) -> Option<Ty>
+    requires { (x < class_count image.now.words.now) × Has image.now.words.now t }
+    ensures { (n : ℕ) → Answers image.now.words.now (ok_or result n) (node_rule (program image.now.words.now) nowhere Cast n x 0 (t ∷ [])) }
 {
-    if t < FIRST_CLASS {
-        return Typed::Not(n);
-    }
-    let c = (t - FIRST_CLASS) as usize;
+    let Ty::Class(c) = t else {
+        return None;
+    };
+    let c = c as usize;
     let d = x as usize;
-    decide(
-        classes::is_subclass(ws, l, c, d) | classes::is_subclass(ws, l, d, c),
-        n,
-        FIRST_CLASS + x,
-    )
+    let related = classes::is_subclass(image, c, d) | classes::is_subclass(image, d, c);
+    related.then_some(Ty::Class(x))
 }
 
 // One of the two types is a subtype of the other.
-pub fn eq_rule(ws: &[u32], l: Layout, n: usize, a: u32, b: u32) -> Typed
-    requires { Good ws.now l × (a < type_words ws.now) × (b < type_words ws.now) }
-    ensures { Answers ws.now result (node_rule (program ws.now) nowhere Eq n 0 0 (type_of a ∷ type_of b ∷ [])) }
+#[tactic(auto, using(crate::specs::RuleLaws::eq_types))]
+pub fn eq_rule(image: &Image, a: Ty, b: Ty) -> Option<Ty>
+    requires { Has image.now.words.now a × Has image.now.words.now b }
+    ensures { (n : ℕ) → Answers image.now.words.now (ok_or result n) (node_rule (program image.now.words.now) nowhere Eq n 0 0 (a ∷ b ∷ [])) }
 {
-    decide(
-        classes::is_subtype(ws, l, a, b) | classes::is_subtype(ws, l, b, a),
-        n,
-        BOOLEAN,
-    )
+    let related = classes::is_subtype(image, a, b) | classes::is_subtype(image, b, a);
+    related.then_some(Ty::Boolean)
 }
 
-pub fn var_rule(ws: &[u32], env: &[u32], n: usize, x: u32) -> Typed
-    requires { EnvOk ws.now env.now × (x < variables) }
-    ensures { Answers ws.now result (node_rule (program ws.now) (env_of env.now) Var n x 0 []) }
+// The type that the variable has, if it has one.
+#[tactic(auto, using(crate::specs::RuleLaws::var_answer))]
+pub fn var_rule(env: &[Option<Ty>], x: u32) -> Option<Ty>
+    requires { (length env.now ≡ variables) × (x < variables) }
+    ensures { (ws : List ℕ) (n : ℕ) → EnvOk ws env.now → Answers ws (ok_or result n) (node_rule (program ws) (env_of env.now) Var n x 0 []) }
 {
-    let w = env[x as usize];
-    if w == 0 {
-        return Typed::Not(n);
-    }
-    Typed::Is(w - 1)
+    env[x as usize]
 }
 
 // Nothing is assigned to variable 0, which is `this`.
-pub fn assign_rule(ws: &[u32], l: Layout, env: &[u32], n: usize, x: u32, t: u32) -> Typed
-    requires { Good ws.now l × EnvOk ws.now env.now × (x < variables) × (t < type_words ws.now) }
-    ensures { Answers ws.now result (node_rule (program ws.now) (env_of env.now) Assign n x 0 (type_of t ∷ [])) }
+#[tactic(auto, using(crate::specs::RuleLaws::assign_none, crate::specs::RuleLaws::assign_type))]
+pub fn assign_rule(image: &Image, env: &[Option<Ty>], x: u32, t: Ty) -> Option<Ty>
+    requires { EnvOk image.now.words.now env.now × (x < variables) × Has image.now.words.now t }
+    ensures { (n : ℕ) → Answers image.now.words.now (ok_or result n) (node_rule (program image.now.words.now) (env_of env.now) Assign n x 0 (t ∷ [])) }
 {
-    let w = env[x as usize];
-    if w == 0 {
-        return Typed::Not(n);
-    }
-    decide((x != 0) & classes::is_subtype(ws, l, t, w - 1), n, t)
+    let u = env[x as usize]?;
+    ((x != 0) & classes::is_subtype(image, t, u)).then_some(t)
 }
 
 // The class sees a field of the name, and the class that declares it is the one that the node says.
-pub fn get_rule(ws: &[u32], l: Layout, n: usize, x: u32, y: u32, t: u32) -> Typed
-    requires { Good ws.now l × (x ≤ highest_name) × (t < type_words ws.now) }
-    ensures { Answers ws.now result (node_rule (program ws.now) nowhere Get n x y (type_of t ∷ [])) }
+#[tactic(auto, using(crate::specs::RuleLaws::get_none, crate::specs::RuleLaws::get_nothing))]
+pub fn get_rule(image: &Image, x: u32, y: u32, t: Ty) -> Option<Ty>
+    requires { (x ≤ highest_name) × Has image.now.words.now t }
+    ensures { (n : ℕ) → Answers image.now.words.now (ok_or result n) (node_rule (program image.now.words.now) nowhere Get n x y (t ∷ [])) }
 {
-    if t < FIRST_CLASS {
-        return Typed::Not(n);
-    }
-    let c = (t - FIRST_CLASS) as usize;
-    match classes::look_up(ws, l, Members::Fields, c, x as usize) {
-        Seen::At(d, i) => decide(d == y as usize, n, image::field_word(ws, l, i, 2)),
-        Seen::Nothing => Typed::Not(n),
-    }
+    let Ty::Class(c) = t else {
+        return None;
+    };
+    let field = classes::look_up(image, Members::Fields, c as usize, x as usize)?;
+    (field.owner == y as usize).then_some(words::type_of(image.field_word(field.record, 2)))
 }
 
 // The same for a field that is set. The value's type is below the field's.
-pub fn set_rule(ws: &[u32], l: Layout, n: usize, x: u32, y: u32, t: u32, u: u32) -> Typed
-    requires { Good ws.now l × (x ≤ highest_name) × (t < type_words ws.now) × (u < type_words ws.now) }
-    ensures { Answers ws.now result (node_rule (program ws.now) nowhere Set n x y (type_of t ∷ type_of u ∷ [])) }
+#[tactic(auto, using(crate::specs::RuleLaws::set_none, crate::specs::RuleLaws::set_nothing, crate::specs::RuleLaws::set_field))]
+pub fn set_rule(image: &Image, x: u32, y: u32, t: Ty, u: Ty) -> Option<Ty>
+    requires { (x ≤ highest_name) × Has image.now.words.now t × Has image.now.words.now u }
+    ensures { (n : ℕ) → Answers image.now.words.now (ok_or result n) (node_rule (program image.now.words.now) nowhere Set n x y (t ∷ u ∷ [])) }
 {
-    if t < FIRST_CLASS {
-        return Typed::Not(n);
-    }
-    let c = (t - FIRST_CLASS) as usize;
-    match classes::look_up(ws, l, Members::Fields, c, x as usize) {
-        Seen::At(d, i) => {
-            let below = classes::is_subtype(ws, l, u, image::field_word(ws, l, i, 2));
-            decide((d == y as usize) & below, n, u)
-        },
-        Seen::Nothing => Typed::Not(n),
-    }
+    let Ty::Class(c) = t else {
+        return None;
+    };
+    let field = classes::look_up(image, Members::Fields, c as usize, x as usize)?;
+    let below = classes::is_subtype(image, u, words::type_of(image.field_word(field.record, 2)));
+    ((field.owner == y as usize) & below).then_some(u)
 }
 
-// As many arguments as parameters, each type below its parameter's. The receiver's type stands first.
-fn args_below(
-    ws: &[u32],
-    l: Layout,
-    types: [u32; 9],
-    given: usize,
-    first: usize,
-    count: usize,
-) -> bool
-    requires { Good ws.now l × AllKnown ws.now types × (given ≤ most_arguments) × (first + count ≤ l.type_count) }
-    ensures { result ≡ subtypes (program ws.now) (tabulate given (λ i. type_of (get_or types (suc i) 0))) (types_from ws.now first count) }
+// As many arguments as parameters, each type below its parameter's. The receiver's type stands first. `class_rules::params_below` says why
+// the loop is not shared.
+#[tactic(auto, using(classes::specs::Subtypes::subtypes_all, classes::specs::Subtypes::subtypes_lengths), unfolding(rules::specs::Program::types_from))]
+fn args_below(image: &Image, types: [Ty; 9], given: usize, first: usize, count: usize) -> bool
+    requires { AllHave image.now.words.now types × (given ≤ most_arguments) × (first + count ≤ image.now.layout.type_count) }
+    ensures { result ≡ subtypes (program image.now.words.now) (tabulate given (λ i. get_or types (suc i) Void)) (types_from image.now.words.now first count) }
 {
     if given != count {
         return false;
     }
-    let mut i = 0;
-    while i < count {
-        if !classes::is_subtype(ws, l, types[i + 1], image::type_word(ws, l, first + i)) {
+    for i in 0..count {
+        let parameter = words::type_of(image.type_word(first + i));
+        if !classes::is_subtype(image, types[i + 1], parameter) {
             return false;
         }
-        i += 1;
     }
     true
 }
 
-// The class sees a method of the name, and its parameters take the arguments.
-pub fn call_rule(ws: &[u32], l: Layout, n: usize, x: u32, y: u32, types: [u32; 9]) -> Typed
-    requires { Good ws.now l × (x ≤ highest_name) × (y ≤ most_arguments) × AllKnown ws.now types }
-    ensures { Answers ws.now result (node_rule (program ws.now) nowhere Call n x y (types_of (suc y) types)) }
+// The class sees a method of the name, and its parameters take the y arguments.
+#[tactic(auto, using(crate::specs::RuleLaws::call_none, crate::specs::RuleLaws::call_nothing))]
+pub fn call_rule(image: &Image, x: u32, y: u32, types: [Ty; 9]) -> Option<Ty>
+    requires { (x ≤ highest_name) × (y ≤ most_arguments) × AllHave image.now.words.now types }
+    ensures { (n : ℕ) → Answers image.now.words.now (ok_or result n) (node_rule (program image.now.words.now) nowhere Call n x y (types_of (suc y) types)) }
 {
-    let t = types[0];
-    if t < FIRST_CLASS {
-        return Typed::Not(n);
-    }
-    let c = (t - FIRST_CLASS) as usize;
-    match classes::look_up(ws, l, Members::Methods, c, x as usize) {
-        Seen::At(_, i) => {
-            let first = image::method_word(ws, l, i, 3) as usize;
-            let count = image::method_word(ws, l, i, 4) as usize;
-            let below = args_below(ws, l, types, y as usize, first, count);
-            decide(below, n, image::method_word(ws, l, i, 2))
-        },
-        Seen::Nothing => Typed::Not(n),
-    }
+    let Ty::Class(c) = types[0] else {
+        return None;
+    };
+    let method = classes::look_up(image, Members::Methods, c as usize, x as usize)?;
+    let first = image.method_word(method.record, 3) as usize;
+    let count = image.method_word(method.record, 4) as usize;
+    let below = args_below(image, types, y as usize, first, count);
+    below.then_some(words::type_of(image.method_word(method.record, 2)))
 }

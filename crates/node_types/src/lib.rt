@@ -1,135 +1,100 @@
 // What a node binds for its operands, and its type once theirs are known.
 #![tactic(auto)]
 
-ghost use Rattle.std.specs.Prelude.{◌≡◌, true, ◌+◌, ◌≤◌, ◌<◌, get_or, set};
-ghost use Rattle.image.specs.Numbers.{most_classes};
+ghost use Rattle.std.specs.Prelude.{◌≡◌, true, ◌+◌, ◌≤◌, ◌<◌, ok_or, ℕ};
 ghost use Rattle.image.specs.Trailer.{class_count};
 ghost use Rattle.image.specs.Nodes.{names_hold, operands};
-ghost use Rattle.image.specs.Layout.{Good};
 ghost use Rattle.rules.specs.Program.{program};
 ghost use Rattle.laws.specs.Trees.{operand_count};
 ghost use Rattle.node_rules.specs.Node.{node_rule};
-ghost use Rattle.node_rules.specs.Env.{env_of, types_of, EnvOk, Answers, AllKnown, res_tys, bound_var, bound_word, operand_var, operand_word, rule_of};
+ghost use Rattle.node_rules.specs.Env.{env_of, types_of, EnvOk, Answers, AllHave, Listed, res_tys, operand_var, operand_type, rule_of};
+ghost use Rattle.node_types.specs.Bound.{Binds};
 
-use image::{Kind, Layout};
+use image::{Image, Kind};
 use node_rules::{Typed, Types};
-use words::FIRST_CLASS;
+use words::Ty;
 
-// A variable that is bound, as a number, and the word of its type.
+// A variable that is bound, and its type.
 #[derive(Clone, Copy)]
 pub struct Bound {
     pub variable: usize,
-    pub word: u32,
+    pub ty: Ty,
 }
 
-// What a node binds for its last operand.
-fn bound_by(k: Kind, x: u32, y: u32) -> Bound
-    requires { bound_word k x y ≤ 4 + most_classes }
-    ensures { (result.variable ≡ bound_var k x y) × (result.word ≡ bound_word k x y) }
+// What node n binds for the operand that has j others behind it: only the last may have a variable of its own.
+pub fn operand_bound(image: &Image, n: usize, j: usize) -> Option<Bound>
+    requires { n < image.now.layout.node_count }
+    ensures { Binds (operand_var image.now.words.now n j) (operand_type image.now.words.now n) result }
 {
-    match k {
-        Kind::Block => Bound {
+    if j != 0 {
+        return None;
+    }
+    let x = image.node_word(n, 2);
+    let y = image.node_word(n, 3);
+    match Kind::from(image.node_word(n, 0)) {
+        Kind::Block => Some(Bound {
             variable: x as usize,
-            word: y + 1,
-        },
-        Kind::Try => Bound {
+            ty: words::type_of(y),
+        }),
+        Kind::Try => Some(Bound {
             variable: y as usize,
-            word: FIRST_CLASS + 1 + x,
-        },
-        _ => Bound {
-            variable: image::VARIABLES as usize,
-            word: 0,
-        },
-    }
-}
-
-// What node n binds for the operand that has j others behind it: only the last has a variable of its own.
-pub fn operand_bound(ws: &[u32], l: Layout, n: usize, j: usize) -> Bound
-    requires { Good ws.now l × (n < l.node_count) }
-    ensures { (result.variable ≡ operand_var ws.now n j) × (result.word ≡ operand_word ws.now n) }
-{
-    let k = image::kind_of(image::node_word(ws, l, n, 0));
-    let x = image::node_word(ws, l, n, 2);
-    let y = image::node_word(ws, l, n, 3);
-    let b = bound_by(k, x, y);
-    if j == 0 {
-        b
-    } else {
-        Bound {
-            variable: image::VARIABLES as usize,
-            word: b.word,
-        }
-    }
-}
-
-// Sets a variable's word and gives back the one that it had. A number that is no variable changes nothing.
-pub fn bind(env: &mut [u32], v: usize, w: u32) -> u32
-    ensures { (env.new ≡ set env.old v w) × (result ≡ get_or env.old v 0) }
-{
-    if v < env.len() {
-        let old = env[v];
-        env[v] = w;
-        old
-    } else {
-        0
+            ty: Ty::Class(x),
+        }),
+        _ => None,
     }
 }
 
 // How many operands node n has.
-pub fn operand_total(ws: &[u32], l: Layout, n: usize) -> usize
-    requires { Good ws.now l × (n < l.node_count) }
-    ensures { (result ≡ operand_count ws.now n) × (result ≤ 9) }
+pub fn operand_total(image: &Image, n: usize) -> usize
+    requires { n < image.now.layout.node_count }
+    ensures { (result ≡ operand_count image.now.words.now n) × (result ≤ 9) }
 {
-    let k = image::kind_of(image::node_word(ws, l, n, 0));
-    kinds::operand_count(k, image::node_word(ws, l, n, 3))
+    let k = Kind::from(image.node_word(n, 0));
+    kinds::operand_count(k, image.node_word(n, 3))
 }
 
 // Node n's type, when its operands have been typed.
-pub fn finish(ws: &[u32], l: Layout, env: &[u32], n: usize, r: Types) -> Typed
-    requires { Good ws.now l × EnvOk ws.now env.now × (n < l.node_count) × AllKnown ws.now r.types }
-    ensures { Answers ws.now result (rule_of ws.now n env.now (res_tys (operand_count ws.now n) r)) }
+pub fn finish(image: &Image, env: &[Option<Ty>], n: usize, r: Types) -> Typed
+    requires { EnvOk image.now.words.now env.now × (n < image.now.layout.node_count) × Listed image.now.words.now r }
+    ensures { Answers image.now.words.now result (rule_of image.now.words.now n env.now (res_tys (operand_count image.now.words.now n) r)) }
 {
-    if !r.ok {
-        return Typed::Not(r.place);
-    }
-    let k = image::kind_of(image::node_word(ws, l, n, 0));
-    let x = image::node_word(ws, l, n, 2);
-    let y = image::node_word(ws, l, n, 3);
-    let types = r.types;
-    node_rule(ws, l, env, k, n, x, y, types)
+    let types = r?;
+    let k = Kind::from(image.node_word(n, 0));
+    let x = image.node_word(n, 2);
+    let y = image.node_word(n, 3);
+    node_rule(image, env, k, x, y, types).ok_or(n)
 }
 
-// The type of node n from its operands' types: its own premises.
+// The type of a node from its operands' types: its own premises.
+#[tactic(auto, using(node_rules::specs::RuleLaws::named), unfolding(node_rules::specs::Node::node_rule, image::specs::Nodes::operands, node_rules::specs::Env::types_of, rules::specs::Maps::tabulate))]
 fn node_rule(
-    ws: &[u32],
-    l: Layout,
-    env: &[u32],
+    image: &Image,
+    env: &[Option<Ty>],
     k: Kind,
-    n: usize,
     x: u32,
     y: u32,
-    types: [u32; 9],
-) -> Typed
-    requires { Good ws.now l × EnvOk ws.now env.now × (names_hold (class_count ws.now) k x y ≡ true) × AllKnown ws.now types }
-    ensures { Answers ws.now result (node_rule (program ws.now) (env_of env.now) k n x y (types_of (operands k y) types)) }
+    types: [Ty; 9],
+) -> Option<Ty>
+    requires { EnvOk image.now.words.now env.now × (names_hold (class_count image.now.words.now) k x y ≡ true) × AllHave image.now.words.now types }
+    ensures { (n : ℕ) → Answers image.now.words.now (ok_or result n) (node_rule (program image.now.words.now) (env_of env.now) k n x y (types_of (operands k y) types)) }
 {
     match k {
-        Kind::New => Typed::Is(FIRST_CLASS + x),
-        Kind::Cast => node_rules::cast_rule(ws, l, n, x, types[0]),
-        Kind::Value => Typed::Is(node_rules::literal_rule(x)),
-        Kind::Var => node_rules::var_rule(ws, env, n, x),
-        Kind::Add => node_rules::add_rule(n, types[0], types[1]),
-        Kind::Eq => node_rules::eq_rule(ws, l, n, types[0], types[1]),
-        Kind::Assign => node_rules::assign_rule(ws, l, env, n, x, types[0]),
-        Kind::Get => node_rules::get_rule(ws, l, n, x, y, types[0]),
-        Kind::Set => node_rules::set_rule(ws, l, n, x, y, types[0], types[1]),
-        Kind::Call => node_rules::call_rule(ws, l, n, x, y, types),
-        Kind::Block => Typed::Is(types[0]),
-        Kind::Seq => Typed::Is(types[1]),
-        Kind::If => node_rules::if_rule(n, types[0], types[1], types[2]),
-        Kind::While => node_rules::while_rule(n, types[0]),
-        Kind::Throw => node_rules::throw_rule(n, types[0], x),
-        Kind::Try => node_rules::try_rule(n, types[0], types[1]),
-        Kind::Unknown => Typed::Not(n),
+        Kind::New => Some(Ty::Class(x)),
+        Kind::Cast => node_rules::cast_rule(image, x, types[0]),
+        Kind::Value => Some(node_rules::literal_rule(x)),
+        Kind::Var => node_rules::var_rule(env, x),
+        Kind::Add => node_rules::add_rule(types[0], types[1]),
+        Kind::Eq => node_rules::eq_rule(image, types[0], types[1]),
+        Kind::Assign => node_rules::assign_rule(image, env, x, types[0]),
+        Kind::Get => node_rules::get_rule(image, x, y, types[0]),
+        Kind::Set => node_rules::set_rule(image, x, y, types[0], types[1]),
+        Kind::Call => node_rules::call_rule(image, x, y, types),
+        Kind::Block => Some(types[0]),
+        Kind::Seq => Some(types[1]),
+        Kind::If => node_rules::if_rule(types[0], types[1], types[2]),
+        Kind::While => node_rules::while_rule(types[0]),
+        Kind::Throw => node_rules::throw_rule(types[0], words::type_of(x)),
+        Kind::Try => node_rules::try_rule(types[0], types[1]),
+        Kind::Unknown => None,
     }
 }

@@ -2,24 +2,24 @@
 use Rattle.std.specs.Prelude.{◌≡◌, refl, Bool, true, false, cond, List, ℕ, zero, suc, ◌+◌, ◌-◌, ◌≤◌, ◌<◌, ltb, leb}
 use Rattle.std.proofs.Common.{arith, add-one, le-leb, ltb-true}
 use Rattle.std.proofs.lemmas.Bool.{lt-leb}
-use Rattle.order.specs.declared.Found.{Found}
-use Rattle.order.specs.declared.Found.TheVariants.{At, Nowhere}
+use Rattle.std.specs.declared.option.Option.{Option}
+use Rattle.std.specs.declared.option.Option.TheVariants.{Some, None}
 use Rattle.image.specs.Records.{method_word}
 use Rattle.image.specs.Laws.{and_left}
 use Rattle.image.specs.Trailer.{node_count}
 use Rattle.image.specs.Nodes.{node_word, reach, spans, body_start, body_holds}
 
 -- the walk back over operands, a tree at a time
-pub reach_none : (ws : List ℕ) (k e : ℕ) → k ≡ 0 → reach ws k e ≡ At e
+pub reach_none : (ws : List ℕ) (k e : ℕ) → k ≡ 0 → reach ws k e ≡ Some e
 unfolding reach
 reach_none ws k e h = rw h
 
-pub reach_out : (ws : List ℕ) (k e : ℕ) → 0 < k → e ≡ 0 → reach ws k e ≡ Nowhere
+pub reach_out : (ws : List ℕ) (k e : ℕ) → 0 < k → e ≡ 0 → reach ws k e ≡ None
 unfolding reach
 reach_out ws zero e h z = absurd (omega arith)
 reach_out ws (suc k) e h z = rw z
 
-pub reach_past : (ws : List ℕ) (k e : ℕ) → 0 < k → e < node_word ws (e - 1) 1 → reach ws k e ≡ Nowhere
+pub reach_past : (ws : List ℕ) (k e : ℕ) → 0 < k → e < node_word ws (e - 1) 1 → reach ws k e ≡ None
 unfolding reach
 reach_past ws zero e h z = absurd (omega arith)
 reach_past ws (suc k) zero h z = refl
@@ -44,15 +44,15 @@ start_after ws zero h = absurd (omega arith)
 start_after ws (suc i) h = let p : suc i - 1 ≡ i = omega arith in rw (p, add-one (method_word ws i 5))
 
 -- a place found lies at or before n
-abbrev pub Inside : ℕ → Found → Type 0
-Inside n (At b) = b ≤ n
-Inside n Nowhere = Unit
+abbrev pub Inside : ℕ → Option ℕ → Type 0
+Inside n (Some b) = b ≤ n
+Inside n None = Unit
 
-inside_less : (n m : ℕ) (f : Found) → n ≤ m → Inside n f → Inside m f
-inside_less n m (At b) h i = omega arith
-inside_less n m Nowhere h i = tt
+inside_less : (n m : ℕ) (f : Option ℕ) → n ≤ m → Inside n f → Inside m f
+inside_less n m (Some b) h i = omega arith
+inside_less n m None h i = tt
 
-inside_pick : (n : ℕ) (t : Bool) (f : Found) → Inside n f → Inside n (cond t f Nowhere)
+inside_pick : (n : ℕ) (t : Bool) (f : Option ℕ) → Inside n f → Inside n (cond t f None)
 inside_pick n true f i = i
 inside_pick n false f i = tt
 

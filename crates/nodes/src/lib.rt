@@ -5,34 +5,29 @@ ghost use Rattle.std.specs.Prelude.{◌≡◌, ◌^◌, ◌≤◌, ◌<◌};
 ghost use Rattle.order.specs.Rules.{first_place};
 ghost use Rattle.image.specs.Nodes.{operands, spans, size_is, node_holds, body_start, body_holds, filled_holds};
 ghost use Rattle.image.specs.Nodes.{reach as Nodes·reach};
-ghost use Rattle.image.specs.Layout.{node_rule, body_rule, Lay, Small};
+ghost use Rattle.image.specs.Layout.{node_rule, body_rule};
 ghost use Rattle.nodes.specs.Laws.{Inside};
 
-use image::Layout;
-use order::Found;
+use image::{Kind, Sections};
 
 // Where the k trees that end just before node e begin, if they stand in the table.
-fn reach(ws: &[u32], l: Layout, k: usize, e: usize) -> Found
-    requires { Lay ws.now l × (e ≤ l.node_count) }
-    ensures { result ≡ Nodes·reach ws.now k e }
+#[tactic(auto, using(crate::specs::Laws::reach_none, crate::specs::Laws::reach_out, crate::specs::Laws::reach_past, crate::specs::Laws::reach_on))]
+fn reach(sections: &Sections, k: usize, e: usize) -> Option<usize>
+    requires { e ≤ sections.now.layout.node_count }
+    ensures { result ≡ Nodes·reach sections.now.words.now k e }
 {
-    let mut left = k;
     let mut at = e;
-    while left > 0 {
+    for _ in 0..k {
         if at == 0 {
-            return Found::Nowhere;
+            return None;
         }
-        let size = image::node_word(ws, l, at - 1, 1) as usize;
-        if size > at {
-            return Found::Nowhere;
-        }
-        at -= size;
-        left -= 1;
+        at = at.checked_sub(sections.node_word(at - 1, 1) as usize)?;
     }
-    Found::At(at)
+    Some(at)
 }
 
 // A tree from node b to node n.
+#[tactic(auto, unfolding(image::specs::Nodes::spans))]
 fn tree_spans(b: usize, n: usize, size: u32) -> bool
     requires { (b ≤ 2 ^ 32) × (n < 2 ^ 62) }
     ensures { result ≡ spans b n size }
@@ -41,94 +36,80 @@ fn tree_spans(b: usize, n: usize, size: u32) -> bool
 }
 
 // Whether a size is that of node n with operands where they were found.
-fn size_is(n: usize, size: u32, from: Found) -> bool
+#[tactic(auto, unfolding(image::specs::Nodes::size_is))]
+fn size_is(n: usize, size: u32, from: Option<usize>) -> bool
     requires { (n < 2 ^ 32) × Inside n from }
     ensures { result ≡ size_is n size from }
 {
-    match from {
-        Found::At(b) => tree_spans(b, n, size),
-        Found::Nowhere => false,
-    }
+    from.is_some_and(|b| tree_spans(b, n, size))
 }
 
 // 8 at node n.
-fn node_holds(ws: &[u32], l: Layout, n: usize) -> bool
-    requires { Lay ws.now l × Small l × (n < l.node_count) }
-    ensures { result ≡ node_holds ws.now n }
+#[tactic(auto, using(crate::specs::Laws::reach_inside), unfolding(image::specs::Nodes::node_holds))]
+fn node_holds(sections: &Sections, n: usize) -> bool
+    requires { n < sections.now.layout.node_count }
+    ensures { result ≡ node_holds sections.now.words.now n }
 {
-    let kind = image::kind_of(image::node_word(ws, l, n, 0));
-    let x = image::node_word(ws, l, n, 2);
-    let y = image::node_word(ws, l, n, 3);
-    if !kinds::names_hold(l.class_count as u32, kind, x, y) {
+    let kind = Kind::from(sections.node_word(n, 0));
+    let x = sections.node_word(n, 2);
+    let y = sections.node_word(n, 3);
+    if !kinds::names_hold(sections.layout.class_count as u32, kind, x, y) {
         return false;
     }
-    let from = reach(ws, l, kinds::operand_count(kind, y), n);
-    size_is(n, image::node_word(ws, l, n, 1), from)
+    let from = reach(sections, kinds::operand_count(kind, y), n);
+    size_is(n, sections.node_word(n, 1), from)
 }
 
 // 8: the first node record that is broken.
-pub fn node_place(ws: &[u32], l: Layout) -> Found
-    requires { Lay ws.now l × Small l }
-    ensures { result ≡ first_place (node_rule ws.now) }
+#[tactic(auto, unfolding(order::specs::Rules::first_place, image::specs::Layout::node_rule))]
+pub fn node_place(sections: &Sections) -> Option<usize>
+    ensures { result ≡ first_place (node_rule sections.now.words.now) }
 {
-    let mut n = 0;
-    while n < l.node_count {
-        if !node_holds(ws, l, n) {
-            return Found::At(n);
-        }
-        n += 1;
-    }
-    Found::Nowhere
+    order::first_broken(sections.layout.node_count, |n| node_holds(sections, n))
 }
 
 // Where body i begins.
-pub fn body_start(ws: &[u32], l: Layout, i: usize) -> usize
-    requires { Lay ws.now l × (i ≤ l.method_count) }
-    ensures { (result ≡ body_start ws.now i) × (result ≤ 2 ^ 32) }
+#[tactic(auto, using(crate::specs::Laws::start_after), unfolding(image::specs::Nodes::body_start))]
+pub fn body_start(sections: &Sections, i: usize) -> usize
+    requires { i ≤ sections.now.layout.method_count }
+    ensures { (result ≡ body_start sections.now.words.now i) × (result ≤ 2 ^ 32) }
 {
     if i == 0 {
         return 0;
     }
-    image::method_word(ws, l, i - 1, 5) as usize + 1
+    sections.method_word(i - 1, 5) as usize + 1
 }
 
 // A body from node b to node n.
-fn body_holds(ws: &[u32], l: Layout, b: usize, n: usize) -> bool
-    requires { Lay ws.now l × (b ≤ 2 ^ 32) }
-    ensures { result ≡ body_holds ws.now b n }
+#[tactic(auto, unfolding(image::specs::Nodes::body_holds))]
+fn body_holds(sections: &Sections, b: usize, n: usize) -> bool
+    requires { b ≤ 2 ^ 32 }
+    ensures { result ≡ body_holds sections.now.words.now b n }
 {
-    if n >= l.node_count {
-        return false;
-    }
-    tree_spans(b, n, image::node_word(ws, l, n, 1))
+    n < sections.layout.node_count && tree_spans(b, n, sections.node_word(n, 1))
 }
 
 // 9 at method i, or at main.
-fn filled_holds(ws: &[u32], l: Layout, i: usize) -> bool
-    requires { Lay ws.now l × (i ≤ l.method_count) }
-    ensures { result ≡ filled_holds ws.now i }
+#[tactic(auto, using(crate::specs::Laws::body_inside), unfolding(image::specs::Nodes::filled_holds))]
+fn filled_holds(sections: &Sections, i: usize) -> bool
+    requires { i ≤ sections.now.layout.method_count }
+    ensures { result ≡ filled_holds sections.now.words.now i }
 {
-    let b = body_start(ws, l, i);
-    if i < l.method_count {
-        return body_holds(ws, l, b, image::method_word(ws, l, i, 5) as usize);
+    let b = body_start(sections, i);
+    if i < sections.layout.method_count {
+        return body_holds(sections, b, sections.method_word(i, 5) as usize);
     }
-    if !body_holds(ws, l, b, l.main) {
-        return false;
-    }
-    l.main + 1 == l.node_count
+    body_holds(sections, b, sections.layout.main)
+        && sections.layout.main + 1 == sections.layout.node_count
 }
 
 // 9: the first method whose body is out of place; the method count for main.
-pub fn body_place(ws: &[u32], l: Layout) -> Found
-    requires { Lay ws.now l }
-    ensures { result ≡ first_place (body_rule ws.now) }
+#[tactic(auto, unfolding(order::specs::Rules::first_place, image::specs::Layout::body_rule))]
+pub fn body_place(sections: &Sections) -> Option<usize>
+    ensures { result ≡ first_place (body_rule sections.now.words.now) }
 {
-    let mut i = 0;
-    while i <= l.method_count {
-        if !filled_holds(ws, l, i) {
-            return Found::At(i);
-        }
-        i += 1;
-    }
-    Found::Nowhere
+    order::first_broken(
+        sections.layout.method_count + 1,
+        |i| filled_holds(sections, i),
+    )
 }

@@ -1,7 +1,7 @@
 -- New objects, in the heap's words.
 use Rattle.std.specs.Prelude.{◌≡◌, true, List, map, ℕ, ◌*◌, ◌≤◌, ◌<◌, length, get_or, set}
-use Rattle.order.specs.declared.Found.{Found}
-use Rattle.order.specs.declared.Found.TheVariants.{At, Nowhere}
+use Rattle.std.specs.declared.option.Option.{Option}
+use Rattle.std.specs.declared.option.Option.TheVariants.{Some, None}
 use Rattle.words.specs.declared.Value.TheVariants.{Addr}
 use Rattle.words.specs.Value.{addresses, word_of}
 use Rattle.image.specs.Trailer.{class_count}
@@ -35,7 +35,7 @@ pub record Opens (ws hs : List ℕ) (c from a : ℕ) : Type 0 where
   pub below : (b : ℕ) → b < a → taken_at hs b ≡ true
 
 -- what the lowest free slot from a start says of a new object
-abbrev pub Opened : (ws hs : List ℕ) (c from : ℕ) → Found → Type 0
-Opened ws hs c from (At a) = Opens ws hs c from a
-Opened ws hs c from Nowhere =
+abbrev pub Opened : (ws hs : List ℕ) (c from : ℕ) → Option ℕ → Type 0
+Opened ws hs c from (Some a) = Opens ws hs c from a
+Opened ws hs c from None =
     new_redex (program ws) (heap_of (program ws) hs) c (lowest_free (heap_of (program ws) hs)) ≡ raises out_of_memory

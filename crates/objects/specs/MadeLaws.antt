@@ -8,8 +8,8 @@ use Rattle.std.proofs.Math.ListN.{length}
 use Rattle.std.proofs.lemmas.List.{length-map}
 use Rattle.std.proofs.lemmas.List.Edits.{sets}
 use Rattle.std.proofs.Math.Seq.{length-sets}
-use Rattle.order.specs.declared.Found.{Found}
-use Rattle.order.specs.declared.Found.TheVariants.{At, Nowhere}
+use Rattle.std.specs.declared.option.Option.{Option}
+use Rattle.std.specs.declared.option.Option.TheVariants.{Some, None}
 use Rattle.order.specs.Rules.{scan, first_place}
 use Rattle.order.specs.Lowest.{found}
 use Rattle.words.specs.Types.{type_of}
@@ -27,9 +27,9 @@ use Rattle.heap.specs.Slots.{taken_at}
 use Rattle.heap.specs.SlotLaws.{free_at, lowest_free_lem, lowest_free_from}
 use Rattle.objects.specs.Made.{default_words, Made, Opened}
 
-place_at : (r : Found) (a : ℕ) → place r ≡ some a → r ≡ At a
-place_at (At b) a e = let z : b ≡ a = cc in rw z
-place_at Nowhere a e = absurd (let z : ◌≡◌ {A = ℕ} 0 1 = cc in omega arith)
+place_at : (r : Option ℕ) (a : ℕ) → place r ≡ some a → r ≡ Some a
+place_at (Some b) a e = let z : b ≡ a = cc in rw z
+place_at None a e = absurd (let z : ◌≡◌ {A = ℕ} 0 1 = cc in omega arith)
 
 -- the slots that are taken are those that hold an object
 taken_look : (P : Program) (classes : ℕ) (hs : List ℕ) → Words P classes hs → (b : ℕ) → taken_at hs b ≡ taken (look (heap_of P hs) b)
@@ -39,7 +39,7 @@ taken_look P classes hs k b = rw (words_heap P classes hs k) at (taken_word (hea
 module _ (ws hs : List ℕ) (k : Words (program ws) (class_count ws) hs) where
   -- where the slots below the start are taken, the lowest free slot from there is where a new object is made
   pub opened : (c from : ℕ) → from ≤ length hs / slot_words → ((b : ℕ) → b < from → taken_at hs b ≡ true)
-      → length hs ≤ slot_words * addresses → (r : Found) → r ≡ scan (taken_at hs) (length hs / slot_words - from) from
+      → length hs ≤ slot_words * addresses → (r : Option ℕ) → r ≡ scan (taken_at hs) (length hs / slot_words - from) from
       → Opened ws hs c from r
   unfolding new_redex first_place
   opened c from h t small r e =
@@ -48,8 +48,8 @@ module _ (ws hs : List ℕ) (k : Words (program ws) (class_count ws) hs) where
       n : ℕ
       n = length hs / slot_words
 
-      go : (r : Found) → lowest_free (heap_of (program ws) hs) ≡ place r → Opened ws hs c from r
-      go (At a) q =
+      go : (r : Option ℕ) → lowest_free (heap_of (program ws) hs) ≡ place r → Opened ws hs c from r
+      go (Some a) q =
           let m = room (heap_of (program ws) hs) a q in
           let z = free_word (program ws) hs k.whole a m.empty in
           let l = m.within in
@@ -69,7 +69,7 @@ module _ (ws hs : List ℕ) (k : Words (program ws) (class_count ws) hs) where
                 (λ y. y) (lt_or_ge a from);
             below = (found (record { number = 0; places = n; holds = taken_at hs }) a s).lower;
           }
-      go Nowhere q = rw q
+      go None q = rw q
 
   -- the class word and the default words make an object
   made : (a c : ℕ) → slot_words * a < length hs → get_or hs (slot_words * a) 0 ≡ 0 → c < class_count ws

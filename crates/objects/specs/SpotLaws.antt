@@ -5,7 +5,7 @@ use Rattle.std.proofs.Common.{sym, ◌∙◌, get_or-set_other, eqb-true, ne_eqb
 use Rattle.std.proofs.Math.Bool.{true, false}
 use Rattle.std.proofs.Math.Option.{Option, none, some}
 use mathlib.Core.List.{List, [], ◌∷◌, ◌++◌}
-use Prim.Native.Nat.{ℕ, suc, ◌+◌, ◌*◌, ◌-◌, ◌/◌, ◌%◌, ◌<◌}
+use Prim.Native.Nat.{ℕ, suc, ◌+◌, ◌*◌, ◌/◌, ◌%◌, ◌<◌}
 use native.Mathlib.Omega.{arith}
 use Rattle.std.proofs.Math.Dec.{eqb}
 use Rattle.std.proofs.Math.ListN.{length}
@@ -23,8 +23,9 @@ use Rattle.laws.specs.Classes.{Lower, class_ind, subclass_here, subclass_end, su
 use Rattle.laws.specs.Heap.{Words, fields_at, look_free, look_obj, obj_count, obj_field, class_known, written_word, written_proper, heap_put, heap_shaped, shaped_fits, shaped_put, shaped_words, words_heap, words_put}
 use Rattle.laws.specs.Values.{value_at, IsValue}
 use Rattle.laws.specs.Tags.{null_at}
-use Rattle.heap.specs.Slots.{taken_at}
-use Rattle.heap.specs.SlotLaws.{slot_inside}
+use Rattle.std.specs.declared.option.Option.TheVariants.{Some, None}
+use Rattle.heap.specs.Slots.{class_at, taken_at}
+use Rattle.heap.specs.SlotLaws.{class_none, class_some, slot_inside}
 use Rattle.objects.specs.Spots.{FieldSpot, FieldRaises, FieldFails}
 
 -- fields that follow and are not the one that is looked for
@@ -103,16 +104,19 @@ module _ (ws hs : List ℕ) (name d w : ℕ) where
       record { reads = r.0; writes = r.1 }
 
   module _ (k : Words (program ws) (class_count ws) hs) (a : ℕ) (e : value_at w ≡ Addr a) where
-    pub spot_free : get_or hs (slot_words * a) 0 ≡ 0 → FieldFails ws hs name d w
+    pub spot_free : class_at hs a ≡ None → FieldFails ws hs name d w
     unfolding get_redex put_redex get_slot put_slot
-    spot_free z = let f = look_free (program ws) hs k.whole a z in record { reads = rw (e, f); writes = λ u. rw (e, f) }
+    spot_free z = let f = look_free (program ws) hs k.whole a (class_none hs a z) in record { reads = rw (e, f); writes = λ u. rw (e, f) }
 
     -- an object
-    module _ (c : ℕ) (z : get_or hs (slot_words * a) 0 ≡ suc c) where
+    module _ (c : ℕ) (z : class_at hs a ≡ Some c) where
+      first_is : get_or hs (slot_words * a) 0 ≡ suc c
+      first_is = class_some hs a c z
+
       spot_none : field_index (has_fields (program ws) c) d name ≡ none → FieldFails ws hs name d w
       unfolding get_redex put_redex get_slot put_slot get_field put_field
       spot_none n =
-          let f = look_obj (program ws) hs k.whole a c z in
+          let f = look_obj (program ws) hs k.whole a c first_is in
           record { reads = rw (e, f, n); writes = λ u. rw (e, f, n) }
 
       pub spot_some : (i : ℕ) → field_index (has_fields (program ws) c) d name ≡ some i → FieldSpot ws hs name d w (slot_words * a + 1 + i)
@@ -122,18 +126,18 @@ module _ (ws hs : List ℕ) (name d w : ℕ) where
           let h = heap_of P hs in
           let vs = fields_at P hs a c in
           let j = slot_words * a + 1 + i in
-          let f : look h a ≡ obj c vs = look_obj P hs k.whole a c z in
+          let f : look h a ≡ obj c vs = look_obj P hs k.whole a c first_is in
           let n = (field_index_found (has_fields P c) d name i q).within in
-          let few = k.few c (class_known P (class_count ws) hs k a c z) in
+          let few = k.few c (class_known P (class_count ws) hs k a c first_is) in
           let count = obj_count P hs k.whole a c vs f in
           let long : i < length vs = omega arith in
-          let inside : j < length hs = slot_inside P (class_count ws) hs k a c i z (omega arith) in
+          let inside : j < length hs = slot_inside P (class_count ws) hs k a c i first_is (omega arith) in
           let at : j / slot_words ≡ a = omega arith in
           let rest : j % slot_words ≡ suc i = omega arith in
           record {
             inside = inside;
             reads = rw (e, f, q) (ap (gives h) (obj_field P hs k.whole a c vs f i Value.Unit long));
-            holds = rw (lt-ltb i (length (has_fields P c)) n) at (rw (rest, at, z) at (k.holds j inside));
+            holds = rw (lt-ltb i (length (has_fields P c)) n) at (rw (rest, at, first_is) at (k.holds j inside));
             writes =
                 λ u v.
                 let p = heap_put P (class_count ws) hs k a c vs i (value_at u) f long (written_proper u) in
@@ -165,7 +169,3 @@ module _ (ws hs : List ℕ) (name d w : ℕ) where
 pub index_few : {P : Program} {classes : ℕ} {hs : List ℕ} → Words P classes hs → (d f i : ℕ) → d < classes
     → some i ≡ field_index (has_fields P d) d f → i < most_fields_above
 index_few {P} k d f i h e = omega (arith, (field_index_found (has_fields P d) d f i (sym e)).within, k.few d h)
-
--- a word that is not 0 is one above a class
-pub class_at : {first m : ℕ} → first ≡ m → (first ≡ 0 → ⊥) → m ≡ suc (first - 1)
-class_at e n = omega arith

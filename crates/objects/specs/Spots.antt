@@ -9,8 +9,8 @@ use Rattle.rules.specs.Step.{gives, raises, fails, get_redex, put_redex}
 use Rattle.laws.specs.Values.{value_at, IsValue}
 use Rattle.laws.specs.Heap.{Words}
 use Rattle.heap.specs.Slots.{taken_at}
-use Rattle.objects.specs.declared.Spot.{Spot}
-use Rattle.objects.specs.declared.Spot.TheVariants.{At, Raises, Fails}
+use Rattle.redexes.specs.declared.Outcome.{Outcome}
+use Rattle.redexes.specs.declared.Outcome.TheVariants.{Gives, Raises, Fails}
 
 -- The field that class d declares by that name, of the object that word w is the address of, stands at word j: to read the
 -- field is to read the word, and to write the field is to write it.
@@ -37,7 +37,7 @@ pub record FieldFails (ws hs : List ℕ) (name d w : ℕ) : Type 0 where
   pub writes : (v : Value) → put_redex (program ws) (heap_of (program ws) hs) name d (value_at w) v ≡ fails
 
 -- what an answer says
-abbrev pub Spotted : (ws hs : List ℕ) (name d w : ℕ) → Spot → Type 0
-Spotted ws hs name d w (At j) = FieldSpot ws hs name d w j
+abbrev pub Spotted : (ws hs : List ℕ) (name d w : ℕ) → Outcome ℕ → Type 0
+Spotted ws hs name d w (Gives j) = FieldSpot ws hs name d w j
 Spotted ws hs name d w (Raises a) = FieldRaises ws hs name d w a
 Spotted ws hs name d w Fails = FieldFails ws hs name d w

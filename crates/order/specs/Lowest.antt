@@ -1,8 +1,8 @@
 -- Laws: `answer_of` tells the lowest breach of rules listed with rising numbers, and nothing else does.
 use Rattle.std.specs.Prelude.{Bool, true, false, cond, ◌≡◌, refl, List, [], ◌∷◌, ◌++◌, ◌⊎◌, ◌↔◌, ℕ, zero, suc, ◌+◌, ◌≤◌, ◌<◌}
 use Rattle.std.proofs.Common.{sym, ◌∙◌, ap, inl, inr, ⊎_elim, arith}
-use Rattle.order.specs.declared.Found.{Found}
-use Rattle.order.specs.declared.Found.TheVariants.{At, Nowhere}
+use Rattle.std.specs.declared.option.Option.{Option}
+use Rattle.std.specs.declared.option.Option.TheVariants.{Some, None}
 use Rattle.order.specs.declared.Answer.{Answer}
 use Rattle.order.specs.Rules.{Rule, scan, first_place, accepted, or_else, answer_of, Broken, Breach, Lowest, Sound, Tells}
 
@@ -13,37 +13,37 @@ eq_or_less (suc i) zero h = absurd (omega arith)
 eq_or_less (suc i) (suc j) h = ⊎_elim (λ e. inl (ap suc e)) (λ e. inr (omega arith)) (eq_or_less i j (omega arith))
 
 -- what a scan that found a place, or none, has seen
-abbrev Seen : (ℕ → Bool) → ℕ → ℕ → Found → Type 0
-Seen test k i (At p) =
+abbrev Seen : (ℕ → Bool) → ℕ → ℕ → Option ℕ → Type 0
+Seen test k i (Some p) =
     record {
       low : i ≤ p;
       high : p < i + k;
       fails : test p ≡ false;
       lower : (q : ℕ) → i ≤ q → q < p → test q ≡ true;
     }
-Seen test k i Nowhere = (q : ℕ) → i ≤ q → q < i + k → test q ≡ true
+Seen test k i None = (q : ℕ) → i ≤ q → q < i + k → test q ≡ true
 
-seen_on : (test : ℕ → Bool) (k i : ℕ) (f : Found) → test i ≡ true → Seen test k (suc i) f → Seen test (suc k) i f
-seen_on test k i (At p) e s =
+seen_on : (test : ℕ → Bool) (k i : ℕ) (f : Option ℕ) → test i ≡ true → Seen test k (suc i) f → Seen test (suc k) i f
+seen_on test k i (Some p) e s =
     record {
       low = omega (arith, s.low);
       high = omega (arith, s.high);
       fails = s.fails;
       lower = λ q h l. ⊎_elim (λ (z : i ≡ q). rw (← z) e) (λ z. s.lower q z l) (eq_or_less i q h);
     }
-seen_on test k i Nowhere e s = λ q h l. ⊎_elim (λ (z : i ≡ q). rw (← z) e) (λ z. s q z (omega arith)) (eq_or_less i q h)
+seen_on test k i None e s = λ q h l. ⊎_elim (λ (z : i ≡ q). rw (← z) e) (λ z. s q z (omega arith)) (eq_or_less i q h)
 
 seen : (test : ℕ → Bool) (k i : ℕ) → Seen test k i (scan test k i)
 unfolding scan
 seen test zero i = λ q h l. absurd (omega arith)
 seen test (suc k) i = go (test i) refl (seen test k (suc i))
   where
-    go : (b : Bool) → test i ≡ b → Seen test k (suc i) (scan test k (suc i)) → Seen test (suc k) i (cond b (scan test k (suc i)) (At i))
+    go : (b : Bool) → test i ≡ b → Seen test k (suc i) (scan test k (suc i)) → Seen test (suc k) i (cond b (scan test k (suc i)) (Some i))
     go true e s = seen_on test k i (scan test k (suc i)) e s
     go false e s = record { low = omega arith; high = omega arith; fails = e; lower = λ q h l. absurd (omega arith) }
 
 -- a rule that is broken nowhere holds at all its places
-pub held : (r : Rule) → first_place r ≡ Nowhere → (p : ℕ) → p < r.places → r.holds p ≡ true
+pub held : (r : Rule) → first_place r ≡ None → (p : ℕ) → p < r.places → r.holds p ≡ true
 unfolding first_place
 held r e p h = (rw e at (seen r.holds r.places 0)) p (omega arith) (omega arith)
 
@@ -52,7 +52,7 @@ pub record First (r : Rule) (p : ℕ) : Type 0 where
   pub broken : Broken r p
   pub lower : (q : ℕ) → q < p → r.holds q ≡ true
 
-pub found : (r : Rule) (p : ℕ) → first_place r ≡ At p → First r p
+pub found : (r : Rule) (p : ℕ) → first_place r ≡ Some p → First r p
 unfolding first_place
 found r p e =
     let s = rw e at (seen r.holds r.places 0) in
@@ -113,9 +113,9 @@ unfolding answer_of
 tells n [] g = inl (record { none = λ m q b. b }, refl)
 tells n (r ∷ rs) g = go (first_place r) refl (tells r.number rs g.1)
   where
-    go : (f : Found) → first_place r ≡ f → Tells rs (answer_of rs) → Tells (r ∷ rs) (or_else r.number f (answer_of rs))
-    go (At p) e t = inr (tells_here n r rs g p (found r p e))
-    go Nowhere e t = tells_later n r rs g (answer_of rs) (held r e) t
+    go : (f : Option ℕ) → first_place r ≡ f → Tells rs (answer_of rs) → Tells (r ∷ rs) (or_else r.number f (answer_of rs))
+    go (Some p) e t = inr (tells_here n r rs g p (found r p e))
+    go None e t = tells_later n r rs g (answer_of rs) (held r e) t
 
 -- and no other answer is: two answers that the rules call for are equal
 pub unique : (rs : List Rule) (a b : Answer) → Tells rs a → Tells rs b → a ≡ b
@@ -174,17 +174,17 @@ unfolding answer_of
 after_broken [] ss a e h = absurd (let z : a.number ≡ 0 = ap (λ (a : Answer). a.number) e in omega arith)
 after_broken (r ∷ rs) ss a e h = go (first_place r) e (λ q. after_broken rs ss a q h)
   where
-    go : (f : Found) → a ≡ or_else r.number f (answer_of rs) → (a ≡ answer_of rs → a ≡ answer_of (rs ++ ss))
+    go : (f : Option ℕ) → a ≡ or_else r.number f (answer_of rs) → (a ≡ answer_of rs → a ≡ answer_of (rs ++ ss))
         → a ≡ or_else r.number f (answer_of (rs ++ ss))
-    go (At q) e ih = e
-    go Nowhere e ih = ih e
+    go (Some q) e ih = e
+    go None e ih = ih e
 
 pub after_sound : (b : ℕ) (rs ss : List Rule) → Rising b rs → accepted ≡ answer_of rs → answer_of ss ≡ answer_of (rs ++ ss)
 unfolding answer_of
 after_sound b [] ss g e = refl
 after_sound b (r ∷ rs) ss g e = go (first_place r) e (λ q. after_sound r.number rs ss g.1 q)
   where
-    go : (f : Found) → accepted ≡ or_else r.number f (answer_of rs) → (accepted ≡ answer_of rs → answer_of ss ≡ answer_of (rs ++ ss))
+    go : (f : Option ℕ) → accepted ≡ or_else r.number f (answer_of rs) → (accepted ≡ answer_of rs → answer_of ss ≡ answer_of (rs ++ ss))
         → answer_of ss ≡ or_else r.number f (answer_of (rs ++ ss))
-    go (At q) e ih = absurd (let z : 0 ≡ r.number = ap (λ (a : Answer). a.number) e in omega (arith, g.0))
-    go Nowhere e ih = ih e
+    go (Some q) e ih = absurd (let z : 0 ≡ r.number = ap (λ (a : Answer). a.number) e in omega (arith, g.0))
+    go None e ih = ih e

@@ -1,7 +1,7 @@
 -- Rules, and the first of them that is broken: lowest number first, then lowest place. Said once, for every question.
 use Rattle.std.specs.Prelude.{◌≡◌, Bool, false, cond, List, [], ◌∷◌, ◌⊎◌, ℕ, zero, suc, ◌≤◌, ◌<◌}
-use Rattle.order.specs.declared.Found.{Found}
-use Rattle.order.specs.declared.Found.TheVariants.{At, Nowhere}
+use Rattle.std.specs.declared.option.Option.{Option}
+use Rattle.std.specs.declared.option.Option.TheVariants.{Some, None}
 use Rattle.order.specs.declared.Answer.{Answer}
 
 -- A rule of the table: its number, how many places it is asked at (0, 1, ..), and whether it holds at a place.
@@ -11,12 +11,16 @@ pub record Rule : Type 0 where
   pub holds : ℕ → Bool
 
 -- of k places from i on, the lowest at which the test fails
-unfoldable pub scan : (ℕ → Bool) → (k i : ℕ) → Found
-scan test zero i = Nowhere
-scan test (suc k) i = let above = scan test k (suc i) in cond (test i) above (At i)
+unfoldable pub scan : (ℕ → Bool) → (k i : ℕ) → Option ℕ
+scan test zero i = None
+scan test (suc k) i = let above = scan test k (suc i) in cond (test i) above (Some i)
+
+-- a test of places below n, asked by code whose answers are as `post` says
+abbrev pub Asks : (post : ℕ → Bool → Type 0) (n : ℕ) (test : ℕ → Bool) → Type 0
+Asks post n test = (i : ℕ) (b : Bool) → i < n → post i b → b ≡ test i
 
 -- the lowest place at which a rule is broken
-unfoldable pub first_place : Rule → Found
+unfoldable pub first_place : Rule → Option ℕ
 first_place r = scan r.holds r.places 0
 
 -- nothing is broken
@@ -24,9 +28,9 @@ abbrev pub accepted : Answer
 accepted = record { number = 0; place = 0 }
 
 -- a breach of rule n at a place; where there is none, what the later rules say
-abbrev pub or_else : ℕ → Found → Answer → Answer
-or_else n (At p) later = record { number = n; place = p }
-or_else n Nowhere later = later
+abbrev pub or_else : ℕ → Option ℕ → Answer → Answer
+or_else n (Some p) later = record { number = n; place = p }
+or_else n None later = later
 
 -- the rules are asked in the order in which they are listed, each at its places from 0 up
 unfoldable pub answer_of : List Rule → Answer

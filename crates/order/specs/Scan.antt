@@ -1,14 +1,14 @@
 -- Laws of `scan`: a loop that looks for the lowest broken place cites these and nothing else.
 use Rattle.std.specs.Prelude.{Bool, true, false, ◌≡◌, ℕ, suc, ◌+◌, ◌-◌, ◌≤◌, ◌<◌}
 use Rattle.std.proofs.Common.{sym, ◌∙◌, ap, arith, add-one}
-use Rattle.order.specs.declared.Found.TheVariants.{At, Nowhere}
+use Rattle.std.specs.declared.option.Option.TheVariants.{Some, None}
 use Rattle.order.specs.Rules.{scan}
 
 scan_on : (p : ℕ → Bool) (k i : ℕ) → p i ≡ true → scan p (suc k) i ≡ scan p k (suc i)
 unfolding scan
 scan_on p k i e = rw e
 
-scan_hit : (p : ℕ → Bool) (k i : ℕ) → p i ≡ false → scan p (suc k) i ≡ At i
+scan_hit : (p : ℕ → Bool) (k i : ℕ) → p i ≡ false → scan p (suc k) i ≡ Some i
 unfolding scan
 scan_hit p k i e = rw e
 
@@ -33,12 +33,12 @@ on {p} {n} {i} s h e =
     }
 
 -- the test failed at i
-pub hit : {p : ℕ → Bool} {n i : ℕ} → Still p n i → i < n → p i ≡ false → At i ≡ scan p n 0
+pub hit : {p : ℕ → Bool} {n i : ℕ} → Still p n i → i < n → p i ≡ false → Some i ≡ scan p n 0
 hit {p} {n} {i} s h e =
     sym (scan_hit p (n - suc i) i e) ∙ ap (λ (k : ℕ). scan p k i) (omega arith) ∙ s.same
 
 -- every place was passed
-pub none : {p : ℕ → Bool} {n i : ℕ} → Still p n i → n ≤ i → Nowhere ≡ scan p n 0
+pub none : {p : ℕ → Bool} {n i : ℕ} → Still p n i → n ≤ i → None ≡ scan p n 0
 unfolding scan
 none {p} {n} {i} s h =
     let z : n - i ≡ 0 = omega arith in

@@ -1,7 +1,7 @@
 -- WHICH ROOMS AND RECORDS ARE A PAUSED RUN'S: what number 21 asks, by words.
-use Rattle.std.specs.Prelude.{Bool, true, false, not, ◌&&◌, ◌||◌, List, ℕ, zero, suc, ◌+◌, ◌-◌, eqb, ltb, leb, length, get_or}
+use Rattle.std.specs.Prelude.{Bool, true, false, not, ◌&&◌, ◌||◌, List, ℕ, zero, suc, ◌+◌, ◌-◌, eqb, ltb, leb, length, get_or, is_some}
 use Rattle.std.proofs.Math.Option.{Option, none, some}
-use Rattle.words.specs.Value.{addresses, value_of, is_is}
+use Rattle.words.specs.Value.{addresses, value_of}
 use Rattle.words.specs.Types.{is_declared}
 use Rattle.image.specs.declared.Kind.{Kind}
 use Rattle.image.specs.declared.Kind.TheVariants.{New, Cast, Value as Literal, Var, Add, Eq, Assign, Get, Set, Call, Block, Seq, If, While, Throw, Try, Unknown}
@@ -27,7 +27,7 @@ unfoldable pub blank : (ℕ → ℕ) → (a n : ℕ) → Bool
 blank w a n = every (λ k. eqb (w (a + k)) 0) n
 
 abbrev pub is_word : ℕ → Bool
-is_word w = is_is (value_of w)
+is_word w = is_some (value_of w)
 
 -- a variable's word
 unfoldable pub held_holds : ℕ → Bool

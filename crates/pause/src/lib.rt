@@ -2,7 +2,7 @@
 #![tactic(auto)]
 
 // The steps that were taken so far, the active node, and how many constructors there are from the root to it, itself counted. All 0
-// where no run is paused.
+// where no run is paused. C lends it, so it is numbers, and no Option.
 #[repr(C)]
 #[derive(Clone, Copy)]
 pub struct Record {

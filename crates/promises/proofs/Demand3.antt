@@ -17,9 +17,8 @@ use Rattle.safety.specs.Answers.{Ran as RunAnswer, end_word, Answered}
 use Rattle.safety.proofs.Answers.{answers_safe, never_stuck as not_stuck}
 use Rattle.image_check.specs.Answers.{checked_numbers}
 use Rattle.conform.specs.Answers.{conformed_numbers}
-use Rattle.run.specs.declared.Ran.{Ran}
-use Rattle.run.specs.declared.Ran.TheVariants.{Refused, Ended as Over}
-use Rattle.run.specs.Answers.{ran_numbers, told_of, Answers}
+use Rattle.run.specs.Answers.{Ran, Over, ran_numbers, told_of, Answers}
+use Rattle.std.specs.declared.result.Result.TheVariants.{Ok, Err}
 use Rattle.refusals.specs.JudgedLaws.{depth_fine}
 use Rattle.run.specs.Promise.{never_accepted, count_within}
 use Rattle.promises.specs.Demand3.{Demand3, Enough, SafeAnswer}
@@ -46,21 +45,21 @@ module _ (ws hs is : List ℕ) (checked : answer_of (check_rules ws) ≡ accepte
       (safe : (end : Answer) (word : Option ℕ) (heap : List ℕ) → RunAnswer ws hs is steps depth end word heap
       → Answered ws t end word heap) where
     safe_answer : (r : Ran) (heap' room' : List ℕ) → Answers ws hs is lent steps depth r heap' room' → SafeAnswer ws lent t steps r heap' room'
-    safe_answer (Refused f) heap' room' a =
+    safe_answer (Err f) heap' room' a =
         absurd (never_accepted f (ap (λ (b : Answer). b.number) (a.numbers ∙ no_breach lent depth n)))
-    safe_answer (Over e k) heap' room' a =
+    safe_answer (Ok r) heap' room' a =
         record {
-          end = e;
-          count = k;
+          end = r.end;
+          count = r.count;
           ended = refl;
           answered =
-              safe (end_numbers e) (end_word (end_value e)) heap'
+              safe (end_numbers r.end) (end_word (end_value r.end)) heap'
               (record {
                 end_is = ap end_numbers a.end;
                 word_is = ap (λ (d : End). end_word (end_value d)) a.end;
                 heap_is = a.heap;
               });
-          within = count_within ws hs is lent steps depth e k heap' room' a;
+          within = count_within ws hs is lent steps depth r.end r.count heap' room' a;
           cleared = a.room;
         }
 

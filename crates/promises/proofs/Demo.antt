@@ -12,10 +12,8 @@ use Rattle.rules.specs.Bench.{image, heap}
 use Rattle.figures.proofs.Agreement.{ok_inj}
 use Rattle.safety.specs.Demo.{Accepts, bench_image, orders, objects, inputs}
 use Rattle.safety.proofs.Demo.{bench, hierarchy}
-use Rattle.image_check.specs.declared.Checked.TheVariants.{Accepted as ImageAccepted}
-use Rattle.conform.specs.declared.Conformed.TheVariants.{Accepted as StartAccepted}
-use Rattle.run.specs.declared.Ran.{Ran}
-use Rattle.run.specs.declared.Ran.TheVariants.{Ended as Over}
+use Rattle.std.specs.declared.result.Result.TheVariants.{Ok}
+use Rattle.run.specs.Answers.{Ran, Over}
 use Rattle.promises.specs.Demand3.{LetIn, Enough}
 use Rattle.promises.proofs.Demand3.{demand_3}
 use Rattle.promises.specs.Demo.{Given, Safe, bench_left, lent, objects_left}
@@ -23,7 +21,7 @@ use Rattle.promises.specs.Demo.{Given, Safe, bench_left, lent, objects_left}
 pub enough : Enough lent 8
 enough = record { least = omega arith; most = omega arith; room = omega arith }
 
-pub let_in : {ws hs is : List ℕ} → Accepts ws hs is → LetIn ws hs is ImageAccepted StartAccepted
+pub let_in : {ws hs is : List ℕ} → Accepts ws hs is → LetIn ws hs is (Ok tt) (Ok tt)
 let_in a =
     record {
       check_promise = sym a.check;
@@ -35,7 +33,7 @@ let_in a =
 given_safe : (ws hs is : List ℕ) → Accepts ws hs is → typing (program ws) (main ws) (main_env ws) ≡ ok Integer
     → (r : Ran) (left : List ℕ) → Given ws hs is r left → Safe ws r left
 given_safe ws hs is a m r left g =
-    let s = demand_3 ws hs is ImageAccepted StartAccepted (let_in a) in
+    let s = demand_3 ws hs is (Ok tt) (Ok tt) (let_in a) in
     let e : s.0 ≡ Integer = ok_inj (sym s.1 ∙ m) in
     rw e at (s.2 lent 100 8 enough r left lent g)
 

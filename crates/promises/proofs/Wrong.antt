@@ -11,8 +11,7 @@ use Rattle.rules.specs.Computing.{computing}
 use Rattle.rules.specs.Numbers.{end_numbers}
 use Rattle.rules.specs.Bench.{heap}
 use Rattle.safety.specs.Demo.{bench_image, orders, objects, inputs}
-use Rattle.run.specs.declared.Ran.TheVariants.{Ended as Over}
-use Rattle.run.specs.Answers.{Answers}
+use Rattle.run.specs.Answers.{Over, Answers}
 use Rattle.run.specs.Promise.{one_answer}
 use Rattle.promises.specs.Demo.{lent, bench_left, objects_left}
 use Rattle.promises.proofs.Demo.{bench_given, hierarchy_given}

@@ -7,22 +7,20 @@ use Rattle.rules.specs.Program.{program, main, main_env}
 use Rattle.rules.specs.Typing.{ok, typing}
 use Rattle.rules.specs.Numbers.{most_depth, room_words, check_rules, conform_rules, end_numbers, end_value}
 use Rattle.safety.specs.Answers.{end_word, Answered}
-use Rattle.image_check.specs.declared.Checked.{Checked}
-use Rattle.image_check.specs.declared.Checked.TheVariants.{Accepted as ImageAccepted}
+use Rattle.std.specs.declared.result.Result.{Result}
+use Rattle.std.specs.declared.result.Result.TheVariants.{Ok}
+use Rattle.image_check.specs.declared.Rejected.{Rejected}
 use Rattle.image_check.specs.Answers.{checked_numbers}
-use Rattle.conform.specs.declared.Conformed.{Conformed}
-use Rattle.conform.specs.declared.Conformed.TheVariants.{Accepted as StartAccepted}
+use Rattle.conform.specs.declared.Unfit.{Unfit}
 use Rattle.conform.specs.Answers.{conformed_numbers}
-use Rattle.run.specs.declared.Ran.{Ran}
-use Rattle.run.specs.declared.Ran.TheVariants.{Ended as Over}
-use Rattle.run.specs.Answers.{Answers}
+use Rattle.run.specs.Answers.{Ran, Over, Answers}
 
 -- The answers of an image check and of a conformity check keep their promises, and both accept.
-pub record LetIn (ws hs is : List ℕ) (check : Checked) (conform : Conformed) : Type 0 where
+pub record LetIn (ws hs is : List ℕ) (check : Result Unit Rejected) (conform : Result Unit Unfit) : Type 0 where
   pub check_promise : checked_numbers check ≡ answer_of (check_rules ws)
   pub conform_promise : conformed_numbers conform ≡ answer_of (conform_rules ws hs is)
-  pub check_accepts : check ≡ ImageAccepted
-  pub conform_accepts : conform ≡ StartAccepted
+  pub check_accepts : check ≡ Ok tt
+  pub conform_accepts : conform ≡ Ok tt
 
 -- The depth limit is one that may be asked for, and enough room is lent for it.
 pub record Enough (lent : List ℕ) (depth : ℕ) : Type 0 where
@@ -45,7 +43,7 @@ pub record SafeAnswer (ws lent : List ℕ) (t : Ty) (steps : ℕ) (r : Ran) (hea
 -- limit is, and whatever words are lent, if they are enough for the depth limit.
 abbrev pub Demand3 : Type 0
 Demand3 =
-    (ws hs is : List ℕ) (check : Checked) (conform : Conformed)
+    (ws hs is : List ℕ) (check : Result Unit Rejected) (conform : Result Unit Unfit)
     → LetIn ws hs is check conform
     → (t : Ty)
     × (typing (program ws) (main ws) (main_env ws) ≡ ok t)

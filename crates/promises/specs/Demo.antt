@@ -3,8 +3,7 @@
 use Rattle.std.specs.Prelude.{ℕ, List, ◌∷◌, ◌++◌, replicate}
 use Rattle.words.specs.declared.Ty.TheVariants.{Integer}
 use Rattle.rules.specs.Bench.{heap}
-use Rattle.run.specs.declared.Ran.{Ran}
-use Rattle.run.specs.Answers.{Answers}
+use Rattle.run.specs.Answers.{Ran, Answers}
 use Rattle.promises.specs.Demand3.{SafeAnswer}
 
 -- the words of room that depth limit 8 asks for

@@ -4,10 +4,7 @@ use Rattle.std.proofs.Math.Path.{◌≡◌}
 use mathlib.Core.List.{List}
 use Rattle.rules.specs.declared.End.{End}
 use Rattle.rules.specs.declared.End.TheVariants.{OutOfSteps}
-use Rattle.rules.specs.Bench.{heap}
-use Rattle.run.specs.declared.Ran.{Ran}
-use Rattle.run.specs.declared.Ran.TheVariants.{Ended as Over}
-use Rattle.run.specs.Answers.{Answers}
+use Rattle.run.specs.Answers.{Ran, Over, Answers}
 
 -- what a call of a program gives: an answer, and the heap and the room that it leaves
 pub record Left : Type 0 where

@@ -1,5 +1,7 @@
 -- A node whose value is known where it stands: the steps to it change neither heap nor variables.
 use Rattle.std.specs.Prelude.{◌≡◌, List, ◌⊎◌, true, ℕ, suc, ◌+◌, ◌*◌, ◌≤◌, ◌<◌, length, get_or}
+use Rattle.std.specs.declared.option.Option.{Option}
+use Rattle.std.specs.declared.option.Option.TheVariants.{Some}
 use Rattle.image.specs.Numbers.{most_nodes, variables}
 use Rattle.image.specs.Trailer.{trailer, node_count}
 use Rattle.image.specs.Nodes.{node_word, node_holds}
@@ -41,15 +43,15 @@ pub record Eval (ws hs room : List ℕ) (n w k d : ℕ) : Type 0 where
 abbrev pub most_quick : ℕ
 most_quick = 5
 
--- What an answer says; one that holds nothing says nothing. Each frame more is one step more, and one leaf.
+-- What an answer says. Each frame more is one step more, and one leaf.
 pub record Known (ws hs room : List ℕ) (n d : ℕ) (q : Quick) : Type 0 where
   pub few : q.steps ≤ most_quick
   pub fewer : q.steps ≤ 2 * d + 1
-  pub eval : (w : ℕ) → q.held ≡ suc w → Eval ws hs room n w q.steps d
+  pub eval : Eval ws hs room n q.word q.steps d
 
--- a word and 1 more is a value's, or it is 0
+-- an answer's word is a value's, and its steps are few
 abbrev pub Valued : Quick → Type 0
-Valued q = (w : ℕ) → q.held ≡ suc w → IsValue w
+Valued q = IsValue q.word × (q.steps ≤ most_quick)
 
 -- an Add or an Eq, by its number
 abbrev pub IsPair : ℕ → Type 0
@@ -61,32 +63,23 @@ pub record Gives (kind v w u : ℕ) : Type 0 where
   pub redex : ((kind ≡ 4) × ((h : Heap) → add_redex h (value_at v) (value_at w) ≡ gives h (value_at u)))
       ⊎ ((kind ≡ 5) × ((h : Heap) → eq_redex h (value_at v) (value_at w) ≡ gives h (value_at u)))
 
--- an answer that holds the value of u, made of two that hold values
-pub record Made (kind : ℕ) (a b r : Quick) (u : ℕ) : Type 0 where
-  pub left : ℕ
-  pub right : ℕ
-  pub left_held : a.held ≡ suc left
-  pub right_held : b.held ≡ suc right
-  pub steps : r.steps ≡ a.steps + b.steps + 1
-  pub gives : Gives kind left right u
-
 -- the answer for a pair, of its operands' answers
-pub record Paired (kind : ℕ) (a b r : Quick) : Type 0 where
-  pub few : r.steps ≤ a.steps + b.steps + 1
-  pub made : (u : ℕ) → r.held ≡ suc u → Made kind a b r u
+pub record Paired (kind : ℕ) (a b : Option Quick) (r : Quick) : Type 0 where
+  pub left : Quick
+  pub right : Quick
+  pub left_is : a ≡ Some left
+  pub right_is : b ≡ Some right
+  pub steps : r.steps ≡ left.steps + right.steps + 1
+  pub gives : Gives kind left.word right.word r.word
 
 -- the answer for a Get, of its operand's answer
-pub record Fetched (ws hs : List ℕ) (p : ℕ) (q r : Quick) (u : ℕ) : Type 0 where
-  pub object : ℕ
-  pub object_held : q.held ≡ suc object
-  pub is_value_lem : IsValue u
-  pub steps : r.steps ≡ q.steps + 1
-  pub reads : get_redex (program ws) (heap_of (program ws) hs) (node_word ws p 2) (node_word ws p 3) (value_at object)
-      ≡ gives (heap_of (program ws) hs) (value_at u)
-
-pub record Field (ws hs : List ℕ) (p : ℕ) (q r : Quick) : Type 0 where
-  pub few : r.steps ≤ q.steps + 1
-  pub fetched : (u : ℕ) → r.held ≡ suc u → Fetched ws hs p q r u
+pub record Field (ws hs : List ℕ) (p : ℕ) (q : Option Quick) (r : Quick) : Type 0 where
+  pub object : Quick
+  pub object_is : q ≡ Some object
+  pub is_value_lem : IsValue r.word
+  pub steps : r.steps ≡ object.steps + 1
+  pub reads : get_redex (program ws) (heap_of (program ws) hs) (node_word ws p 2) (node_word ws p 3) (value_at object.word)
+      ≡ gives (heap_of (program ws) hs) (value_at r.word)
 
 -- Node r is n itself, or n is an Add or an Eq and r is an operand of it, the first one where it does not stand right before n.
 pub record Deep (ws : List ℕ) (kind n r : ℕ) : Type 0 where

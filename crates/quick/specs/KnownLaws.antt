@@ -6,7 +6,6 @@ use mathlib.Core.List.{List}
 use Rattle.std.proofs.Math.Logic.{inl, inr}
 use Prim.Native.Nat.{ℕ, suc, ◌+◌, ◌*◌, ◌-◌, ◌/◌, ◌%◌, ◌^◌, ◌≤◌, ◌<◌}
 use native.Mathlib.Omega.{arith}
-use Rattle.std.proofs.lemmas.Bool.{eqb-false}
 use Rattle.words.specs.declared.Value.{Value}
 use Rattle.words.specs.Value.{value_with, value_of, is_value}
 use Rattle.words.proofs.ValueLaws.{tag_of_lem, payload_of_lem}
@@ -34,6 +33,10 @@ use Rattle.room.specs.Nodes.{var_local, var_steps}
 use Rattle.room.specs.Back as back
 use Rattle.room.specs.Leads.{Leaps}
 use Rattle.room.specs.LeadsLaws.{leaps_move, leaps_step, leaps_on, leaps_kept}
+use Rattle.std.specs.declared.option.Option.{Option}
+use Rattle.std.specs.declared.option.Option.TheVariants.{Some}
+use Rattle.std.specs.Option.{IfSome}
+use Rattle.std.proofs.lemmas.Option.{IfSome_then}
 use Rattle.quick.specs.declared.Quick.{Quick}
 use Rattle.quick.specs.Known.{Tabled, Stored, Locals, Eval, Known, Valued, IsPair, Gives, Paired, Field, Deep}
 
@@ -252,69 +255,73 @@ module _ (ws : List ℕ) (nodes : (n : ℕ) → n < node_count ws → node_holds
           (leaps_kept ws D (leaps_on ws D (leaps_on ws D a b.leads) c.leads) (kept_back (push_kept ws r l t n)))
 
   -- what answers say
-  pub known_none : (n d : ℕ) (q : Quick) → q.held ≡ 0 → q.steps ≡ 0 → Known ws hs room n d q
-  known_none n d q e z = record { few = omega arith; fewer = omega arith; eval = λ w f. absurd (omega arith) }
+  known_more : {n d e : ℕ} {q : Quick} → d ≤ e → Known ws hs room n d q → Known ws hs room n e q
+  known_more h a = record { few = a.few; fewer = omega (arith, a.fewer); eval = eval_deeper h a.eval }
 
-  pub known_deeper : {n d e : ℕ} {q : Quick} → d ≤ e → Known ws hs room n d q → Known ws hs room n e q
-  known_deeper {n} {d} {e} {q} h a = record { few = a.few; fewer = omega (arith, a.fewer); eval = λ w f. eval_deeper h (a.eval w f) }
+  pub known_deeper : (n d e : ℕ) (r : Option Quick) → d ≤ e → IfSome r (Known ws hs room n d) → IfSome r (Known ws hs room n e)
+  known_deeper n d e r h a = IfSome_then r a (λ q k. known_more h k)
 
-  pub known_at : {m n d : ℕ} {q : Quick} → m ≡ n → Known ws hs room m d q → Known ws hs room n d q
-  known_at e a = rw (← e) a
+  pub known_at : (m n d : ℕ) (r : Option Quick) → m ≡ n → IfSome r (Known ws hs room m d) → IfSome r (Known ws hs room n d)
+  known_at m n d r e a = rw (← e) a
 
   -- a node's last operand stands right before it
-  pub known_last : (n : ℕ) {m d : ℕ} {q : Quick} → m ≡ n - 1 → Known ws hs room m d q → Known ws hs room (operand ws n 0) d q
+  pub known_last : (m n d : ℕ) (r : Option Quick) → m ≡ n - 1 → IfSome r (Known ws hs room m d)
+      → IfSome r (Known ws hs room (operand ws n 0) d)
   unfolding operand
-  known_last n e a = known_at e a
+  known_last m n d r e a = known_at m (n - 1) d r e a
 
-  pub known_valued : {n d : ℕ} {q : Quick} → Known ws hs room n d q → Valued q
-  known_valued a w f = (a.eval w f).is_value_lem
+  pub known_valued : (n d : ℕ) (r : Option Quick) → IfSome r (Known ws hs room n d) → IfSome r Valued
+  known_valued n d r a = IfSome_then r a (λ q k. (k.eval.is_value_lem, k.few))
 
-  pub known_get : {n d : ℕ} {q r : Quick} → node_word ws n 0 ≡ 7 → Known ws hs room (operand ws n 0) d q → Field ws hs n q r
-      → d ≤ 1
+  get_more : (n d : ℕ) (q : Option Quick) (r : Quick) → node_word ws n 0 ≡ 7 → IfSome q (Known ws hs room (operand ws n 0) d)
+      → Field ws hs n q r → d ≤ 1
       → Known ws hs room n (suc d) r
-  known_get {n} {d} {q} {r} e a f m =
+  get_more n d q r e a f m =
+      let k = rw f.object_is at a in
+      let v = f.object in
       record {
-        few = omega (arith, a.fewer, f.few);
-        fewer = omega (arith, a.fewer, f.few);
-        eval =
-            λ u h.
-            let g = f.fetched u h in
-            rw g.steps (eval_get n g.object u q.steps d e (a.eval g.object g.object_held) g.reads g.is_value_lem);
+        few = omega (arith, k.fewer, f.steps);
+        fewer = omega (arith, k.fewer, f.steps);
+        eval = rw f.steps (eval_get n v.word r.word v.steps d e k.eval f.reads f.is_value_lem);
       }
 
-  pub known_pair : {n t c d : ℕ} {a b r : Quick} → IsPair t → node_word ws n 0 ≡ t → Known ws hs room (operand ws n 1) c a
-      → Known ws hs room (operand ws n 0) d b → Paired t a b r → c + d ≤ 1
+  pub known_get : (n d : ℕ) (q r : Option Quick) → node_word ws n 0 ≡ 7
+      → IfSome q (Known ws hs room (operand ws n 0) d) → IfSome r (Field ws hs n q) → d ≤ 1
+      → IfSome r (Known ws hs room n (suc d))
+  known_get n d q r e a f m = IfSome_then r f (λ u g. get_more n d q u e a g m)
+
+  pair_more : (n t c d : ℕ) (a b : Option Quick) (r : Quick) → IsPair t → node_word ws n 0 ≡ t
+      → IfSome a (Known ws hs room (operand ws n 1) c) → IfSome b (Known ws hs room (operand ws n 0) d) → Paired t a b r → c + d ≤ 1
       → Known ws hs room n (suc (c + d)) r
-  known_pair {n} {t} {c} {d} {a} {b} {r} p e x y f m =
+  pair_more n t c d a b r p e x y f m =
+      let j = rw f.left_is at x in
+      let k = rw f.right_is at y in
+      let v = f.left in
+      let w = f.right in
       record {
-        few = omega (arith, x.fewer, y.fewer, f.few);
-        fewer = omega (arith, x.fewer, y.fewer, f.few);
+        few = omega (arith, j.fewer, k.fewer, f.steps);
+        fewer = omega (arith, j.fewer, k.fewer, f.steps);
         eval =
-            λ u h.
-            let g = f.made u h in
-            rw g.steps
-            (eval_pair n t g.left g.right u a.steps b.steps (c + d) p e
-            (eval_deeper (omega arith) (x.eval g.left g.left_held))
-            (eval_deeper (omega arith) (y.eval g.right g.right_held)) g.gives);
+            rw f.steps
+            (eval_pair n t v.word w.word r.word v.steps w.steps (c + d) p e (eval_deeper (omega arith) j.eval)
+            (eval_deeper (omega arith) k.eval) f.gives);
       }
+
+  pub known_pair : (n t c d : ℕ) (a b r : Option Quick) → IsPair t → node_word ws n 0 ≡ t
+      → IfSome a (Known ws hs room (operand ws n 1) c) → IfSome b (Known ws hs room (operand ws n 0) d) → IfSome r (Paired t a b)
+      → c + d ≤ 1 → IfSome r (Known ws hs room n (suc (c + d)))
+  known_pair n t c d a b r p e x y f m = IfSome_then r f (λ u g. pair_more n t c d a b u p e x y g m)
 
   pub known_literal : (n w : ℕ) → node_word ws n 0 ≡ 2 → value_at w ≡ written (value_with (node_word ws n 2) (node_word ws n 3)) → IsValue w
-      → Known ws hs room n 0 (record { held = w + 1; steps = 0 })
-  known_literal n w e q v =
-      record { few = omega arith; fewer = omega arith; eval = λ u f. let z : u ≡ w = omega arith in rw z (eval_literal n w e q v) }
+      → Known ws hs room n 0 (record { word = w; steps = 0 })
+  known_literal n w e q v = record { few = omega arith; fewer = omega arith; eval = eval_literal n w e q v }
 
-  pub known_var : (n x : ℕ) → n < node_count ws → node_word ws n 0 ≡ 3 → x ≡ node_word ws n 2 → Stored ws room
-      → Known ws hs room n 0 (record { held = get_or room x 0; steps = 1 })
-  known_var n x h e q s =
-      record {
-        few = omega arith;
-        fewer = omega arith;
-        eval =
-            λ u f.
-            let m = var_local ws n (nodes n h) e in
-            let g : get_or room (node_word ws n 2) 0 ≡ suc u = rw (← q) f in
-            eval_var n u h e g (rw g at (s.held_ok (node_word ws n 2) m));
-      }
+  pub known_var : (n x w : ℕ) → n < node_count ws → node_word ws n 0 ≡ 3 → x ≡ node_word ws n 2 → Stored ws room → get_or room x 0 ≡ suc w
+      → Known ws hs room n 0 (record { word = w; steps = 1 })
+  known_var n x w h e q s f =
+      let m = var_local ws n (nodes n h) e in
+      let g : get_or room (node_word ws n 2) 0 ≡ suc w = rw (← q) f in
+      record { few = omega arith; fewer = omega arith; eval = eval_var n w h e g (rw g at (s.held_ok (node_word ws n 2) m)) }
 
 -- tests of kinds
 pub either_kind : (k : ℕ) → (eqb k 4 || eqb k 5) ≡ true → IsPair k
@@ -336,73 +343,24 @@ pub not_eq : {k : ℕ} → IsPair k → (k ≡ 5 → ⊥) → k ≡ 4
 not_eq (inl e) d = e
 not_eq (inr e) d = absurd (d e)
 
--- neither is 0
-pub both_held : (a b : ℕ) → (eqb a 0 || eqb b 0) ≡ false → (a ≡ 0 → ⊥) × (b ≡ 0 → ⊥)
-both_held a b = go (eqb a 0) refl
-  where
-    go : (t : Bool) → eqb a 0 ≡ t → (t || eqb b 0) ≡ false → (a ≡ 0 → ⊥) × (b ≡ 0 → ⊥)
-    go true e h = absurd (let z : ◌≡◌ {A = ℕ} 0 1 = cc in omega arith)
-    go false e h = (eqb-false a 0 e, eqb-false b 0 h)
-
 -- the word of a pair
 module _ (kind v w : ℕ) where
-  pub gives_none : (u : ℕ) → 0 ≡ suc u → Gives kind v w u
-  gives_none u e = absurd (omega arith)
-
-  pub gives_eq : (r : ℕ) → kind ≡ 5 → value_at r ≡ Value.Bool (same_value (value_at v) (value_at w)) → IsValue r
-      → (u : ℕ) → r + 1 ≡ suc u → Gives kind v w u
+  pub gives_eq : (r : ℕ) → kind ≡ 5 → value_at r ≡ Value.Bool (same_value (value_at v) (value_at w)) → IsValue r → Gives kind v w r
   unfolding eq_redex
-  gives_eq r k e z u h =
-      let q : u ≡ r = omega arith in
-      record { is_value_lem = rw q z; redex = inr (k, λ s. rw (q, e)) }
+  gives_eq r k e z = record { is_value_lem = z; redex = inr (k, λ s. rw e) }
 
   pub gives_add : kind ≡ 4 → IsValue v → IsValue w → (eqb (v / 2 ^ 32) 3 && eqb (w / 2 ^ 32) 3) ≡ true
-      → (u : ℕ) → 3 * 2 ^ 32 + (v + w) % 2 ^ 32 + 1 ≡ suc u → Gives kind v w u
+      → Gives kind v w (3 * 2 ^ 32 + (v + w) % 2 ^ 32)
   unfolding redex_of
-  gives_add k kv kw e u h =
-      let q : u ≡ 3 * 2 ^ 32 + (v + w) % 2 ^ 32 = omega arith in
-      record { is_value_lem = rw q (add_word v w kv kw); redex = inl (k, λ s. rw q (sym (add_sum v w kv kw e s))) }
-
--- the answer for a pair
-pub paired_none : (kind : ℕ) (a b r : Quick) → r.held ≡ 0 → r.steps ≡ 0 → Paired kind a b r
-paired_none kind a b r e z = record { few = omega arith; made = λ u h. absurd (omega arith) }
-
-module _ (kind : ℕ) (a b : Quick) (some : (a.held ≡ 0 → ⊥) × (b.held ≡ 0 → ⊥)) where
-  pub paired : (r : ℕ) → ((u : ℕ) → r ≡ suc u → Gives kind (a.held - 1) (b.held - 1) u)
-      → Paired kind a b (record { held = r; steps = a.steps + b.steps + 1 })
-  paired r g =
-      record {
-        few = omega arith;
-        made =
-            λ u e.
-            let m = some.0 in
-            let n = some.1 in
-            record {
-              left = a.held - 1;
-              right = b.held - 1;
-              left_held = omega arith;
-              right_held = omega arith;
-              steps = refl;
-              gives = g u e;
-            };
-      }
-
--- the value of an answer that holds one
-pub held_value : (q : Quick) → Valued q → (q.held ≡ 0 → ⊥) → IsValue (q.held - 1)
-held_value q v n = v (q.held - 1) (omega arith)
+  gives_add k kv kw e = record { is_value_lem = add_word v w kv kw; redex = inl (k, λ s. sym (add_sum v w kv kw e s)) }
 
 -- the answer for a Get
-module _ (ws hs : List ℕ) (p : ℕ) (q : Quick) where
-  pub field_none : (r : Quick) → r.held ≡ 0 → r.steps ≡ 0 → Field ws hs p q r
-  field_none r e z = record { few = omega arith; fetched = λ u h. absurd (omega arith) }
+pub field_at : (ws hs : List ℕ) (p : ℕ) (q : Option Quick) (v : Quick) (j : ℕ) → q ≡ Some v
+    → FieldSpot ws hs (node_word ws p 2) (node_word ws p 3) v.word j
+    → Field ws hs p q (record { word = get_or hs j 0; steps = v.steps + 1 })
+field_at ws hs p q v j e s = record { object = v; object_is = e; is_value_lem = s.holds; steps = refl; reads = s.reads }
 
-  pub field_at : (j : ℕ) → (q.held ≡ 0 → ⊥) → FieldSpot ws hs (node_word ws p 2) (node_word ws p 3) (q.held - 1) j
-      → Field ws hs p q (record { held = get_or hs j 0 + 1; steps = q.steps + 1 })
-  field_at j n s =
-      record {
-        few = omega arith;
-        fetched =
-            λ u e.
-            let z : u ≡ get_or hs j 0 = omega arith in
-            record { object = q.held - 1; object_held = omega arith; is_value_lem = rw z s.holds; steps = refl; reads = rw z s.reads };
-      }
+-- the answer for a pair
+pub paired : (kind : ℕ) (a b : Option Quick) (v w : Quick) (u : ℕ) → a ≡ Some v → b ≡ Some w → Gives kind v.word w.word u
+    → Paired kind a b (record { word = u; steps = v.steps + w.steps + 1 })
+paired kind a b v w u e f g = record { left = v; right = w; left_is = e; right_is = f; steps = refl; gives = g }

@@ -1,7 +1,7 @@
 -- Laws of the decisions, one for each answer.
 use Rattle.std.proofs.Math.Path.{◌≡◌, refl, sym}
-use Rattle.std.proofs.Common.{◌∙◌, ap}
-use Rattle.std.specs.Prelude.{Bool, ◌&&◌, List, ℕ, zero, suc, ◌+◌, ◌*◌, ◌-◌, ◌/◌, ◌%◌, ◌^◌, ◌<◌, ltb, length, get_or}
+use Rattle.std.proofs.Common.{ap}
+use Rattle.std.specs.Prelude.{Bool, ◌&&◌, List, ℕ, ◌+◌, ◌*◌, ◌/◌, ◌%◌, ◌^◌, ◌<◌, ltb, length}
 use Rattle.std.proofs.Math.Bool.{true, false}
 use Rattle.std.proofs.Math.Option.{none}
 use native.Mathlib.Omega.{arith}
@@ -22,19 +22,16 @@ use Rattle.image.specs.declared.Layout.{Layout}
 use Rattle.rules.specs.Trees.{written}
 use Rattle.rules.specs.Program.{Program, types_from, method_at, program}
 use Rattle.rules.specs.Classes.{subclass, sees_method}
-use Rattle.rules.specs.Heap.{Heap, free, obj, look, slot_words, heap_of}
+use Rattle.rules.specs.Heap.{Heap, free, obj, look, heap_of}
 use Rattle.rules.specs.Step.{tag, same_value, fails, add_redex, cast_slot, cast_redex, Out, if_out, throw_out, enter, call_slot, call_out, catch_slot}
 use Rattle.laws.specs.Maps.{length_tabulate}
 use Rattle.laws.specs.Values.{value_at, IsValue}
 use Rattle.laws.specs.Heap.{Words, fields_at, written_word, written_same, look_free, look_obj, class_known}
 use Rattle.classes.specs.Sees.{MethodAt}
+use Rattle.heap.specs.Slots.{class_at}
+use Rattle.heap.specs.SlotLaws.{class_none, class_some}
+use Rattle.std.specs.declared.option.Option.TheVariants.{Some, None}
 use Rattle.redexes.specs.declared.Outcome.TheVariants.{Gives, Raises, Fails}
-use Rattle.redexes.specs.declared.Choice.{Choice}
-use Rattle.redexes.specs.declared.Choice.TheVariants.{Then, Otherwise}
-use Rattle.redexes.specs.declared.Thrown.{Thrown}
-use Rattle.redexes.specs.declared.Target.{Target}
-use Rattle.redexes.specs.declared.Catch.{Catch}
-use Rattle.redexes.specs.declared.Catch.TheVariants.{Catches, Passes}
 use Rattle.redexes.specs.Outcomes.{redex_of, Chooses, ThrowsAt, Throws, EntersAt, Calls, Tries}
 use Rattle.laws.specs.Tags.{word_value, tag_is, payload_is, null_at, integer_at, address_at, address_small, no_address}
 
@@ -109,15 +106,15 @@ unfolding value_of value_with tag_of payload_of
 false_word = refl
 
 -- If
-pub if_then : (w : ℕ) → w ≡ 2 * 2 ^ 32 + 1 → Chooses w Then
+pub if_then : (w : ℕ) → w ≡ 2 * 2 ^ 32 + 1 → Chooses w (Some true)
 unfolding if_out value_of value_with tag_of payload_of
 if_then w e p h s a b = rw e
 
-pub if_otherwise : (w : ℕ) → w ≡ 2 * 2 ^ 32 → Chooses w Otherwise
+pub if_otherwise : (w : ℕ) → w ≡ 2 * 2 ^ 32 → Chooses w (Some false)
 unfolding if_out value_of value_with tag_of payload_of
 if_otherwise w e p h s a b = rw e
 
-pub if_fails : (w : ℕ) → IsValue w → (w ≡ 2 * 2 ^ 32 + 1 → ⊥) → (w ≡ 2 * 2 ^ 32 → ⊥) → Chooses w Choice.Fails
+pub if_fails : (w : ℕ) → IsValue w → (w ≡ 2 * 2 ^ 32 + 1 → ⊥) → (w ≡ 2 * 2 ^ 32 → ⊥) → Chooses w None
 unfolding if_out word_of
 if_fails w k m n p h s a b = go (value_at w) (written_word w k)
   where
@@ -142,7 +139,7 @@ module _ (w : ℕ) (k : IsValue w) (m : w / 2 ^ 32 ≡ 1 → ⊥) (n : w / 2 ^ 3
       go (Intg x) e = i x
       go (Addr x) e = absurd (n (sym e))
 
-  pub throw_fails : Throws w Thrown.Fails
+  pub throw_fails : Throws w Fails
   unfolding throw_out
   throw_fails p h s = plain (λ v. throw_out p h s v ≡ Out.stuck 0 p) refl (λ b. refl) (λ i. refl)
 
@@ -150,22 +147,22 @@ module _ (w : ℕ) (k : IsValue w) (m : w / 2 ^ 32 ≡ 1 → ⊥) (n : w / 2 ^ 3
   unfolding redex_of cast_redex
   cast_fails P h c = plain (λ v. fails ≡ cast_redex P h c v) refl (λ b. refl) (λ i. refl)
 
-  pub call_fails : (ws hs : List ℕ) (name count : ℕ) → Calls ws hs name count (value_at w) Target.Fails
+  pub call_fails : (ws hs : List ℕ) (name count : ℕ) → Calls ws hs name count (value_at w) Fails
   unfolding call_out
   call_fails ws hs name count p s vs e =
       plain (λ v. call_out (program ws) p (heap_of (program ws) hs) s name v vs ≡ Out.stuck 0 p) refl (λ b. refl) (λ i. refl)
 
 -- null
 module _ (w : ℕ) (k : IsValue w) (e : w / 2 ^ 32 ≡ 1) where
-  pub throw_null : Throws w Thrown.Null
+  pub throw_null : Throws w (Raises 0)
   unfolding throw_out
-  throw_null p h s = rw (null_at w k e)
+  throw_null = (refl, λ p h s. rw (null_at w k e))
 
   pub cast_null : (P : Program) (h : Heap) (c : ℕ) → redex_of h (Gives w) ≡ cast_redex P h c (value_at w)
   unfolding redex_of cast_redex
   cast_null P h c = rw (null_at w k e)
 
-  pub call_null : (ws hs : List ℕ) (name count : ℕ) → Calls ws hs name count (value_at w) (Target.Raises 0)
+  pub call_null : (ws hs : List ℕ) (name count : ℕ) → Calls ws hs name count (value_at w) (Raises 0)
   unfolding call_out
   call_null ws hs name count = record { small = omega arith; out = λ p s vs q. rw (null_at w k e) }
 
@@ -181,69 +178,67 @@ unfolding method_at types_from
 params_count ws j = length_tabulate _ _
 
 -- A slot's class, where it has one, is the program's.
-pub object_class : (ws hs : List ℕ) (l : Layout) → Good ws l → Words (program ws) (class_count ws) hs → (a first : ℕ)
-    → first ≡ get_or hs (slot_words * a) 0 → (first ≡ 0 → ⊥) → first - 1 < l.class_count
-object_class ws hs l g k a zero e n = absurd (n refl)
-object_class ws hs l g k a (suc c) e n =
-    let z : suc c - 1 ≡ c = omega arith in
-    rw (z, g.lay.class_count_lem) (class_known (program ws) (class_count ws) hs k a c (sym e))
+pub object_class : (ws hs : List ℕ) (l : Layout) → Good ws l → Words (program ws) (class_count ws) hs → (a c : ℕ)
+    → class_at hs a ≡ Some c → c < l.class_count
+object_class ws hs l g k a c e =
+    rw g.lay.class_count_lem (class_known (program ws) (class_count ws) hs k a c (class_some hs a c e))
 
--- A slot by its class word.
+-- A slot by its class.
 module _ (ws hs : List ℕ) (k : Words (program ws) (class_count ws) hs) (a : ℕ) where
-  slot_object : (first : ℕ) → first ≡ get_or hs (slot_words * a) 0 → (first ≡ 0 → ⊥)
-      → look (heap_of (program ws) hs) a ≡ obj (first - 1) (fields_at (program ws) hs a (first - 1))
-  slot_object zero e n = absurd (n refl)
-  slot_object (suc c) e n = let z : suc c - 1 ≡ c = omega arith in rw z (look_obj (program ws) hs k.whole a c (sym e))
+  slot_object : (d : ℕ) → class_at hs a ≡ Some d → look (heap_of (program ws) hs) a ≡ obj d (fields_at (program ws) hs a d)
+  slot_object d e = look_obj (program ws) hs k.whole a d (class_some hs a d e)
 
-  module _ (first : ℕ) (e : first ≡ get_or hs (slot_words * a) 0) where
-    slot_free : first ≡ 0 → look (heap_of (program ws) hs) a ≡ free
-    slot_free z = look_free (program ws) hs k.whole a (sym e ∙ z)
+  slot_free : class_at hs a ≡ None → look (heap_of (program ws) hs) a ≡ free
+  slot_free e = look_free (program ws) hs k.whole a (class_none hs a e)
 
-    -- Cast of the address
-    pub cast_free : (c : ℕ) → first ≡ 0
-        → redex_of (heap_of (program ws) hs) Fails ≡ cast_redex (program ws) (heap_of (program ws) hs) c (Addr a)
-    unfolding redex_of cast_redex cast_slot
-    cast_free c z = rw (slot_free z)
+  -- Cast of the address
+  pub cast_free : (c : ℕ) → class_at hs a ≡ None
+      → redex_of (heap_of (program ws) hs) Fails ≡ cast_redex (program ws) (heap_of (program ws) hs) c (Addr a)
+  unfolding redex_of cast_redex cast_slot
+  cast_free c e = rw (slot_free e)
 
-    pub cast_below : (c w : ℕ) → (first ≡ 0 → ⊥) → subclass (program ws) (first - 1) c ≡ true → value_at w ≡ Addr a
-        → redex_of (heap_of (program ws) hs) (Gives w) ≡ cast_redex (program ws) (heap_of (program ws) hs) c (Addr a)
-    unfolding redex_of cast_redex cast_slot
-    cast_below c w n b v = rw (v, slot_object first e n, b)
+  pub cast_below : (d c w : ℕ) → class_at hs a ≡ Some d → subclass (program ws) d c ≡ true → value_at w ≡ Addr a
+      → redex_of (heap_of (program ws) hs) (Gives w) ≡ cast_redex (program ws) (heap_of (program ws) hs) c (Addr a)
+  unfolding redex_of cast_redex cast_slot
+  cast_below d c w e b v = rw (v, slot_object d e, b)
 
-    pub cast_other : (c : ℕ) → (first ≡ 0 → ⊥) → subclass (program ws) (first - 1) c ≡ false
-        → redex_of (heap_of (program ws) hs) (Raises 1) ≡ cast_redex (program ws) (heap_of (program ws) hs) c (Addr a)
-    unfolding redex_of cast_redex cast_slot
-    cast_other c n b = rw (slot_object first e n, b)
+  pub cast_other : (d c : ℕ) → class_at hs a ≡ Some d → subclass (program ws) d c ≡ false
+      → redex_of (heap_of (program ws) hs) (Raises 1) ≡ cast_redex (program ws) (heap_of (program ws) hs) c (Addr a)
+  unfolding redex_of cast_redex cast_slot
+  cast_other d c e b = rw (slot_object d e, b)
 
-    -- a Try that the address is thrown to
-    pub catch_free : (c : ℕ) → first ≡ 0 → Tries ws hs c a Catch.Fails
-    unfolding catch_slot
-    catch_free c z p s x b = rw (slot_free z)
+  -- a Try that the address is thrown to
+  pub catch_free : (c : ℕ) → class_at hs a ≡ None → Tries ws hs c a None
+  unfolding catch_slot
+  catch_free c e p s x b = rw (slot_free e)
 
-    pub catch_below : (c : ℕ) → (first ≡ 0 → ⊥) → subclass (program ws) (first - 1) c ≡ true → Tries ws hs c a Catches
-    unfolding catch_slot
-    catch_below c n q p s x b = rw (slot_object first e n, q)
+  pub catch_below : (d c : ℕ) → class_at hs a ≡ Some d → subclass (program ws) d c ≡ true → Tries ws hs c a (Some true)
+  unfolding catch_slot
+  catch_below d c e q p s x b = rw (slot_object d e, q)
 
-    pub catch_other : (c : ℕ) → (first ≡ 0 → ⊥) → subclass (program ws) (first - 1) c ≡ false → Tries ws hs c a Passes
-    unfolding catch_slot
-    catch_other c n q p s x b = rw (slot_object first e n, q)
+  pub catch_other : (d c : ℕ) → class_at hs a ≡ Some d → subclass (program ws) d c ≡ false → Tries ws hs c a (Some false)
+  unfolding catch_slot
+  catch_other d c e q p s x b = rw (slot_object d e, q)
 
-    -- Call on the address
-    module _ (name count : ℕ) where
-      pub call_free : first ≡ 0 → Calls ws hs name count (Addr a) Target.Fails
-      unfolding call_out call_slot
-      call_free z p s vs q = rw (slot_free z)
+  pub catch_seen : (d c : ℕ) → class_at hs a ≡ Some d → (b : Bool) → b ≡ subclass (program ws) d c → Tries ws hs c a (Some b)
+  catch_seen d c e true q = catch_below d c e (sym q)
+  catch_seen d c e false q = catch_other d c e (sym q)
 
-      pub call_unseen : (first ≡ 0 → ⊥) → sees_method (program ws) (first - 1) name ≡ none
-          → Calls ws hs name count (Addr a) Target.Fails
+  -- Call on the address
+  module _ (name count : ℕ) where
+    pub call_free : class_at hs a ≡ None → Calls ws hs name count (Addr a) Fails
+    unfolding call_out call_slot
+    call_free e p s vs q = rw (slot_free e)
+
+    module _ (c : ℕ) (e : class_at hs a ≡ Some c) where
+      pub call_unseen : sees_method (program ws) c name ≡ none → Calls ws hs name count (Addr a) Fails
       unfolding call_out call_slot enter
-      call_unseen n m p s vs q = rw (slot_object first e n, m)
+      call_unseen m p s vs q = rw (slot_object c e, m)
 
-      module _ (d j : ℕ) (n : first ≡ 0 → ⊥) (m : MethodAt ws (first - 1) name d j) where
-        pub call_unfit : (method_word ws j 4 ≡ count → ⊥) → Calls ws hs name count (Addr a) Target.Fails
+      module _ (d j : ℕ) (m : MethodAt ws c name d j) where
+        pub call_unfit : (method_word ws j 4 ≡ count → ⊥) → Calls ws hs name count (Addr a) Fails
         unfolding call_out call_slot enter
-        call_unfit u p s vs q =
-            rw (slot_object first e n, m.sees, params_count ws j, q, ne_eqb count (method_word ws j 4) (λ z. u (sym z)))
+        call_unfit u p s vs q = rw (slot_object c e, m.sees, params_count ws j, q, ne_eqb count (method_word ws j 4) (λ z. u (sym z)))
 
         pub call_enters : a < addresses → method_word ws j 4 ≡ count → EntersAt ws hs name count (Addr a) a j
         unfolding call_out call_slot enter
@@ -253,7 +248,7 @@ module _ (ws hs : List ℕ) (k : Words (program ws) (class_count ws) hs) (a : �
               small = h;
               within = m.within;
               arguments = u;
-              out = λ p s vs q. rw (slot_object first e n, m.sees, params_count ws j, q, u, eq-eqb count count refl);
+              out = λ p s vs q. rw (slot_object c e, m.sees, params_count ws j, q, u, eq-eqb count count refl);
             }
 
 -- The word of a Value node. Its tag is below an address's.

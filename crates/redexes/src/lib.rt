@@ -1,4 +1,6 @@
 // The decisions of a step, on value words. Nothing is changed here.
+// A value's word is a plain u64 with the clause `IsValue`: as a type of its own it would be packed at each read of heap and room, and
+// unpacked at each comparison and write.
 #![tactic(auto)]
 
 ghost use Rattle.std.specs.Prelude.{◌≡◌, ℕ, ◌≤◌, ◌<◌};
@@ -8,7 +10,6 @@ ghost use Rattle.words.specs.Value.{addresses, value_with};
 ghost use Rattle.image.specs.Numbers.{highest_name};
 ghost use Rattle.image.specs.Nodes.{node_word};
 ghost use Rattle.image.specs.Trailer.{class_count};
-ghost use Rattle.image.specs.Layout.{Good};
 ghost use Rattle.rules.specs.Trees.{written};
 ghost use Rattle.rules.specs.Program.{program};
 ghost use Rattle.rules.specs.Heap.{Heap, heap_of};
@@ -17,58 +18,40 @@ ghost use Rattle.laws.specs.Values.{value_at, IsValue};
 ghost use Rattle.laws.specs.Heap.{Words};
 ghost use Rattle.redexes.specs.Outcomes.{redex_of, Sound, Chooses, Throws, Calls, Tries};
 
-use classes::{Members, Seen};
+use classes::Members;
 use heap::{CLASS_CAST, NULL_POINTER};
-use image::Layout;
+use image::Image;
 use words::TAG;
 
-// What a redex comes to: a value's word, a system exception's address, or no rule.
+// The tags of value words.
+pub const NULL: u64 = 1;
+
+pub const INTEGER: u64 = 3;
+
+pub const ADDRESS: u64 = 4;
+
+// What a redex comes to: what it gives, a system exception's address that is thrown, or no rule.
 #[derive(Clone, Copy)]
-pub enum Outcome {
-    Gives(u64),
+pub enum Outcome<T> {
+    Gives(T),
     Raises(usize),
     Fails,
 }
 
-// What an If does with its condition's value.
+// What a Call enters: the object that is its receiver, by its address, and the method's record.
 #[derive(Clone, Copy)]
-pub enum Choice {
-    Then,
-    Otherwise,
-    Fails,
-}
-
-// What a Throw does with its operand's value: it is Throw of an address, it becomes Throw of NullPointer, or no rule fits.
-#[derive(Clone, Copy)]
-pub enum Thrown {
-    Address(usize),
-    Null,
-    Fails,
-}
-
-// What a Call does with its operands' values: it enters a method (the address and the method's record), throws, or no rule
-// fits.
-#[derive(Clone, Copy)]
-pub enum Target {
-    Enters(usize, usize),
-    Raises(usize),
-    Fails,
-}
-
-// What a Try does with a thrown address.
-#[derive(Clone, Copy)]
-pub enum Catch {
-    Catches,
-    Passes,
-    Fails,
+pub struct Entry {
+    pub object: usize,
+    pub method: usize,
 }
 
 // An Add of two values. The tags add up to a multiple of 2^32, so the sum's low bits are the payloads' sum, wrapped.
-pub fn add_redex(v: u64, w: u64) -> Outcome
+#[tactic(auto, using(crate::specs::RedexLaws::add_sum, crate::specs::RedexLaws::add_word, crate::specs::RedexLaws::add_fails, laws::specs::Tags::tag_small))]
+pub fn add_redex(v: u64, w: u64) -> Outcome<u64>
     requires { IsValue v × IsValue w }
     ensures { ((h : Heap) → redex_of h result ≡ add_redex h (value_at v) (value_at w)) × Sound result }
 {
-    if (v / TAG == 3) & (w / TAG == 3) {
+    if (v / TAG == INTEGER) & (w / TAG == INTEGER) {
         Outcome::Gives(3 * TAG + (v + w) % TAG)
     } else {
         Outcome::Fails
@@ -76,6 +59,7 @@ pub fn add_redex(v: u64, w: u64) -> Outcome
 }
 
 // An Eq of two values. Values are the same when their words are.
+#[tactic(auto, using(crate::specs::RedexLaws::eq_same, crate::specs::RedexLaws::eq_other, crate::specs::RedexLaws::true_word, crate::specs::RedexLaws::false_word))]
 pub fn eq_redex(v: u64, w: u64) -> u64
     requires { IsValue v × IsValue w }
     ensures { (value_at result ≡ Value.Bool (same_value (value_at v) (value_at w))) × IsValue result }
@@ -83,43 +67,45 @@ pub fn eq_redex(v: u64, w: u64) -> u64
     if v == w { 2 * TAG + 1 } else { 2 * TAG }
 }
 
-// An If on a value.
-pub fn if_redex(w: u64) -> Choice
+// An If on a value: what its condition says, where it says something.
+#[tactic(auto, using(crate::specs::RedexLaws::if_then, crate::specs::RedexLaws::if_otherwise, crate::specs::RedexLaws::if_fails))]
+pub fn if_redex(w: u64) -> Option<bool>
     requires { IsValue w }
     ensures { Chooses w result }
 {
     if w == 2 * TAG + 1 {
-        return Choice::Then;
+        return Some(true);
     }
     if w == 2 * TAG {
-        return Choice::Otherwise;
+        return Some(false);
     }
-    Choice::Fails
+    None
 }
 
-// A Throw of a value.
-pub fn throw_redex(w: u64) -> Thrown
+// A Throw of a value. An address is what it throws; Null becomes NullPointer's. A Cast and a Call ask a value for an object too, but Null
+// and an address come to something else in each of the three.
+#[tactic(auto, using(crate::specs::RedexLaws::throw_null, crate::specs::RedexLaws::throw_fails))]
+pub fn throw_redex(w: u64) -> Outcome<usize>
     requires { IsValue w }
     ensures { Throws w result }
 {
     match w / TAG {
-        1 => Thrown::Null,
-        4 => Thrown::Address((w % TAG) as usize),
-        _ => Thrown::Fails,
+        NULL => Outcome::Raises(NULL_POINTER),
+        ADDRESS => Outcome::Gives((w % TAG) as usize),
+        _ => Outcome::Fails,
     }
 }
 
 // A Cast of an address, whose word is w.
-fn cast_address(ws: &[u32], l: Layout, heap: &[u64], c: usize, w: u64, a: usize) -> Outcome
-    requires { Good ws.now l × Words (program ws.now) (class_count ws.now) heap.now × (a < addresses) × (value_at w ≡ Addr a) × IsValue w }
-    ensures { (redex_of (heap_of (program ws.now) heap.now) result ≡ cast_redex (program ws.now) (heap_of (program ws.now) heap.now) c (Addr a)) × Sound result }
+#[tactic(auto, using(crate::specs::RedexLaws::cast_free, crate::specs::RedexLaws::cast_below, crate::specs::RedexLaws::cast_other, crate::specs::RedexLaws::object_class))]
+fn cast_address(image: &Image, heap: &[u64], c: usize, w: u64, a: usize) -> Outcome<u64>
+    requires { Words (program image.now.words.now) (class_count image.now.words.now) heap.now × (a < addresses) × (value_at w ≡ Addr a) × IsValue w }
+    ensures { (redex_of (heap_of (program image.now.words.now) heap.now) result ≡ cast_redex (program image.now.words.now) (heap_of (program image.now.words.now) heap.now) c (Addr a)) × Sound result }
 {
-    let first = heap::slot_class(heap, a);
-    if first == 0 {
+    let Some(d) = heap::class_at(heap, a) else {
         return Outcome::Fails;
-    }
-    let d = (first - 1) as usize;
-    if classes::is_subclass(ws, l, d, c) {
+    };
+    if classes::is_subclass(image, d, c) {
         Outcome::Gives(w)
     } else {
         Outcome::Raises(CLASS_CAST)
@@ -127,72 +113,70 @@ fn cast_address(ws: &[u32], l: Layout, heap: &[u64], c: usize, w: u64, a: usize)
 }
 
 // A Cast of a value to class c.
-pub fn cast_redex(ws: &[u32], l: Layout, heap: &[u64], c: usize, w: u64) -> Outcome
-    requires { Good ws.now l × Words (program ws.now) (class_count ws.now) heap.now × IsValue w }
-    ensures { (redex_of (heap_of (program ws.now) heap.now) result ≡ cast_redex (program ws.now) (heap_of (program ws.now) heap.now) c (value_at w)) × Sound result }
+#[tactic(auto, using(crate::specs::RedexLaws::cast_null, crate::specs::RedexLaws::cast_fails, laws::specs::Tags::address_at, laws::specs::Tags::address_small))]
+pub fn cast_redex(image: &Image, heap: &[u64], c: usize, w: u64) -> Outcome<u64>
+    requires { Words (program image.now.words.now) (class_count image.now.words.now) heap.now × IsValue w }
+    ensures { (redex_of (heap_of (program image.now.words.now) heap.now) result ≡ cast_redex (program image.now.words.now) (heap_of (program image.now.words.now) heap.now) c (value_at w)) × Sound result }
 {
     match w / TAG {
-        1 => Outcome::Gives(w),
-        4 => cast_address(ws, l, heap, c, w, (w % TAG) as usize),
+        NULL => Outcome::Gives(w),
+        ADDRESS => cast_address(image, heap, c, w, (w % TAG) as usize),
         _ => Outcome::Fails,
     }
 }
 
-// A Try that catches class c, when address a is thrown to it.
-pub fn catch_redex(ws: &[u32], l: Layout, heap: &[u64], c: usize, a: usize) -> Catch
-    requires { Good ws.now l × Words (program ws.now) (class_count ws.now) heap.now × (a < addresses) }
-    ensures { Tries ws.now heap.now c a result }
+// Whether a Try that catches class c catches address a, when that is thrown to it and is an object's.
+#[tactic(auto, using(crate::specs::RedexLaws::catch_free, crate::specs::RedexLaws::catch_seen, crate::specs::RedexLaws::object_class))]
+pub fn catch_redex(image: &Image, heap: &[u64], c: usize, a: usize) -> Option<bool>
+    requires { Words (program image.now.words.now) (class_count image.now.words.now) heap.now × (a < addresses) }
+    ensures { Tries image.now.words.now heap.now c a result }
 {
-    let first = heap::slot_class(heap, a);
-    if first == 0 {
-        return Catch::Fails;
-    }
-    let d = (first - 1) as usize;
-    if classes::is_subclass(ws, l, d, c) {
-        Catch::Catches
-    } else {
-        Catch::Passes
-    }
+    let d = heap::class_at(heap, a)?;
+    Some(classes::is_subclass(image, d, c))
 }
 
 // A Call of a name on an address, with that many arguments.
-fn method_target(ws: &[u32], l: Layout, heap: &[u64], name: usize, count: usize, a: usize) -> Target
-    requires { Good ws.now l × Words (program ws.now) (class_count ws.now) heap.now × (name ≤ highest_name) × (a < addresses) }
-    ensures { Calls ws.now heap.now name count (Addr a) result }
+#[tactic(auto, using(crate::specs::RedexLaws::call_free, crate::specs::RedexLaws::call_unseen, crate::specs::RedexLaws::call_unfit, crate::specs::RedexLaws::call_enters, crate::specs::RedexLaws::object_class))]
+fn method_target(image: &Image, heap: &[u64], name: usize, count: usize, a: usize) -> Outcome<Entry>
+    requires { Words (program image.now.words.now) (class_count image.now.words.now) heap.now × (name ≤ highest_name) × (a < addresses) }
+    ensures { Calls image.now.words.now heap.now name count (Addr a) result }
 {
-    let first = heap::slot_class(heap, a);
-    if first == 0 {
-        return Target::Fails;
-    }
-    let c = (first - 1) as usize;
-    let Seen::At(_, j) = classes::look_up(ws, l, Members::Methods, c, name) else {
-        return Target::Fails;
+    let Some(c) = heap::class_at(heap, a) else {
+        return Outcome::Fails;
     };
-    if image::method_word(ws, l, j, 4) as usize == count {
-        Target::Enters(a, j)
+    let Some(seen) = classes::look_up(image, Members::Methods, c, name) else {
+        return Outcome::Fails;
+    };
+    let j = seen.record;
+    if image.method_word(j, 4) as usize == count {
+        Outcome::Gives(Entry {
+            object: a,
+            method: j,
+        })
     } else {
-        Target::Fails
+        Outcome::Fails
     }
 }
 
 // A Call of a name on a value, with that many arguments.
-pub fn call_target(ws: &[u32], l: Layout, heap: &[u64], name: usize, count: usize, w: u64) -> Target
-    requires { Good ws.now l × Words (program ws.now) (class_count ws.now) heap.now × (name ≤ highest_name) × IsValue w }
-    ensures { Calls ws.now heap.now name count (value_at w) result }
+#[tactic(auto, using(crate::specs::RedexLaws::call_fails, laws::specs::Tags::address_at, laws::specs::Tags::address_small))]
+pub fn call_target(image: &Image, heap: &[u64], name: usize, count: usize, w: u64) -> Outcome<Entry>
+    requires { Words (program image.now.words.now) (class_count image.now.words.now) heap.now × (name ≤ highest_name) × IsValue w }
+    ensures { Calls image.now.words.now heap.now name count (value_at w) result }
 {
     match w / TAG {
-        1 => Target::Raises(NULL_POINTER),
-        4 => method_target(ws, l, heap, name, count, (w % TAG) as usize),
-        _ => Target::Fails,
+        NULL => Outcome::Raises(NULL_POINTER),
+        ADDRESS => method_target(image, heap, name, count, (w % TAG) as usize),
+        _ => Outcome::Fails,
     }
 }
 
-// The word of a Value node's value.
-pub fn literal_word(ws: &[u32], l: Layout, n: usize) -> u64
-    requires { Good ws.now l × (n < l.node_count) × (node_word ws.now n 0 ≡ 2) }
-    ensures { (value_at result ≡ written (value_with (node_word ws.now n 2) (node_word ws.now n 3))) × IsValue result × ((a : ℕ) → value_at result ≡ Addr a → ⊥) }
+// The word of a Value node's value. The node has its tag and payload apart: they are joined, and not turned into a value and back.
+pub fn literal_word(image: &Image, n: usize) -> u64
+    requires { (n < image.now.layout.node_count) × (node_word image.now.words.now n 0 ≡ 2) }
+    ensures { (value_at result ≡ written (value_with (node_word image.now.words.now n 2) (node_word image.now.words.now n 3))) × IsValue result × ((a : ℕ) → value_at result ≡ Addr a → ⊥) }
 {
-    let tag = image::node_word(ws, l, n, 2) as u64;
-    let payload = image::node_word(ws, l, n, 3) as u64;
+    let tag = image.node_word(n, 2) as u64;
+    let payload = image.node_word(n, 3) as u64;
     tag * TAG + payload
 }

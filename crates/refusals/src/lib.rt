@@ -2,13 +2,13 @@
 #![tactic(auto)]
 
 ghost use Rattle.std.specs.Prelude.{◌≡◌, ◌*◌, ◌<◌};
-ghost use Rattle.image.specs.Layout.{Good};
-ghost use Rattle.rows.specs.Rows.{Sizes};
+ghost use Rattle.refusals.specs.declared.Refusal.TheVariants.{Layout};
 ghost use Rattle.refusals.specs.Refusals.{refusal_numbers};
 ghost use Rattle.refusals.specs.Judged.{Judges};
 
-use image::{Breach, Layout};
-use order::{Answer, Found};
+use image::Breach;
+use order::Answer;
+use rows::Table;
 
 // The bounds of a depth limit, and the room that one asks for.
 const MOST_DEPTH: u64 = 1024;
@@ -29,76 +29,61 @@ pub enum Refusal {
     Room,
 }
 
-// Whether anything stands against the run of an image whose layout and fields are in order.
-#[derive(Clone, Copy)]
-pub enum Judged {
-    Against(Refusal),
-    Clear,
+impl From<Breach> for Refusal {
+    ghost from_gives = { λ b result. result ≡ Layout b };
+
+    fn from(b: Breach) -> Refusal {
+        Refusal::Layout(b)
+    }
 }
 
-// 14, 15, 16, 19 and 20, in this order.
+// What stands against the run of an image whose layout and fields are in order: 14, 15, 16, 19 and 20, in this order. `conform` says why
+// the first three are not shared.
+#[tactic(auto, using(crate::specs::JudgedLaws::length_broken, crate::specs::JudgedLaws::words_broken, crate::specs::JudgedLaws::inputs_broken, crate::specs::JudgedLaws::depth_broken, crate::specs::JudgedLaws::room_broken, crate::specs::JudgedLaws::all_passed))]
 pub fn judge(
-    ws: &[u32],
-    l: Layout,
-    counts: &[usize],
+    table: &Table,
     heap: &[u64],
     inputs: &[u64],
     room: usize,
     depth: u64,
-) -> Judged
-    requires { Good ws.now l × Sizes ws.now counts.now }
-    ensures { Judges ws.now heap.now inputs.now room depth result }
+) -> Result<(), Refusal>
+    ensures { Judges table.now.image.words.now heap.now inputs.now room depth result }
 {
     if !heap::heap_length_holds(heap.len()) {
-        return Judged::Against(Refusal::HeapLength);
+        return Err(Refusal::HeapLength);
     }
-    if let Found::At(p) = heap::heap_word_place(ws, l, counts, heap) {
-        return Judged::Against(Refusal::HeapWord(p));
+    if let Some(p) = heap::heap_word_place(table, heap) {
+        return Err(Refusal::HeapWord(p));
     }
-    if let Found::At(p) = heap::input_place(ws, l, inputs) {
-        return Judged::Against(Refusal::Input(p));
+    if let Some(p) = heap::input_place(&table.image, inputs) {
+        return Err(Refusal::Input(p));
     }
-    if depth < 1 {
-        return Judged::Against(Refusal::Depth);
-    }
-    if MOST_DEPTH < depth {
-        return Judged::Against(Refusal::Depth);
+    if !(1..=MOST_DEPTH).contains(&depth) {
+        return Err(Refusal::Depth);
     }
     if room < LEVEL_WORDS * depth as usize + MORE_WORDS {
-        return Judged::Against(Refusal::Room);
+        return Err(Refusal::Room);
     }
-    Judged::Clear
+    Ok(())
 }
 
 // The number and place of a refusal.
-pub fn refusal_answer(f: Refusal) -> Answer
-    ensures { result ≡ refusal_numbers f }
-{
-    match f {
-        Refusal::Layout(b) => image::breach_answer(b),
-        Refusal::Fields(p) => Answer {
-            number: 10,
-            place: p as u64,
-        },
-        Refusal::HeapLength => Answer {
-            number: 14,
-            place: 0,
-        },
-        Refusal::HeapWord(p) => Answer {
-            number: 15,
-            place: p as u64,
-        },
-        Refusal::Input(p) => Answer {
-            number: 16,
-            place: p as u64,
-        },
-        Refusal::Depth => Answer {
-            number: 19,
-            place: 0,
-        },
-        Refusal::Room => Answer {
-            number: 20,
-            place: 0,
-        },
+impl From<Refusal> for Answer {
+    ghost from_gives = { λ f result. result ≡ refusal_numbers f };
+
+    fn from(f: Refusal) -> Answer {
+        let (number, place) = match f {
+            Refusal::Layout(b) => return Answer::from(b),
+            Refusal::Fields(p) => (10, p),
+            Refusal::HeapLength => (14, 0),
+            Refusal::HeapWord(p) => (15, p),
+            Refusal::Input(p) => (16, p),
+            Refusal::Depth => (19, 0),
+            Refusal::Room => (20, 0),
+        };
+        Answer {
+            number,
+            place: place as u64,
+        }
     }
 }

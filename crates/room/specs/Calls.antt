@@ -16,7 +16,7 @@ use Rattle.image.specs.Numbers.{most_arguments, variables}
 use Rattle.image.specs.Trailer.{node_count}
 use Rattle.image.specs.Nodes.{node_word, kind_of, operands, node_holds}
 use Rattle.rules.specs.Maps.{upd, tabulate}
-use Rattle.rules.specs.Trees.{Expr, cons, call, block, operand, arguments}
+use Rattle.rules.specs.Trees.{Expr, cons, block, operand, arguments}
 use Rattle.rules.specs.Program.{Program, program}
 use Rattle.rules.specs.Heap.{Heap, heap_of}
 use Rattle.rules.specs.Step.{Store, Out, bare, view, assigned, blocked, blocks, call_out, step}

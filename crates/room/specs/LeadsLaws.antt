@@ -1,15 +1,15 @@
 -- Laws of several turns: one turn is such a thing, one after the other is, and what stands above the level does not matter.
-use Rattle.std.specs.Prelude.{◌≡◌, refl, List, ℕ, zero, suc, ◌+◌, get_or}
-use Rattle.std.proofs.Common.{◌∙◌, ap, arith}
+use Rattle.std.specs.Prelude.{◌≡◌, refl, List, ℕ, suc, ◌+◌, get_or}
+use Rattle.std.proofs.Common.{◌∙◌, arith}
 use Rattle.rules.specs.Program.{program}
 use Rattle.rules.specs.Heap.{heap_of}
 use Rattle.rules.specs.Run.{run}
 use Rattle.room.specs.declared.Focus.{Focus}
-use Rattle.room.specs.Room.{search_word, frames}
+use Rattle.room.specs.Room.{search_word}
 use Rattle.room.specs.RoomLaws.{Kept, kept_fit, kept_frames, kept_store}
 use Rattle.room.specs.Stack.{run_goes}
 use Rattle.room.specs.Enter.{pending_kept}
-use Rattle.room.specs.Turn.{HeapOk, phi, pending, whole, outside, Inv, Moves, Steps}
+use Rattle.room.specs.Turn.{HeapOk, phi, whole, outside, Inv, Moves, Steps}
 use Rattle.room.specs.Leads.{Leads, Leaps}
 
 zero_plus : (n : ℕ) → 0 + n ≡ n

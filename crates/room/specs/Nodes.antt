@@ -19,7 +19,7 @@ use Rattle.image.specs.Numbers.{highest_name, most_arguments, variables, written
 use Rattle.image.specs.Trailer.{class_count, node_count}
 use Rattle.image.specs.Records.{is_name}
 use Rattle.image.specs.Nodes.{node_word, kind_of, is_class, is_variable, is_local, is_unused, names_hold, operands, reach, size_is, node_holds}
-use Rattle.rules.specs.Trees.{Expr, var, assign, seq, ite, while, operand, written, node_of, tree}
+use Rattle.rules.specs.Trees.{Expr, var, seq, ite, while, operand, written, node_of, tree}
 use Rattle.rules.specs.Program.{program}
 use Rattle.rules.specs.Heap.{Heap, heap_of}
 use Rattle.rules.specs.Step.{Store, Out, read_redex, redex, bare, View, is_seq, is_assign, is_val, other, view, value_in, assigned, remember, settle, blocked, load, step}

@@ -6,10 +6,11 @@ use Rattle.std.proofs.Math.Bool.{true, false, cond}
 use mathlib.Core.List.{List, [], ◌∷◌, ◌++◌, append-nil, append_assoc}
 use Prim.Native.Nat.{ℕ, zero, suc, ◌+◌, ◌*◌, ◌-◌, ◌≤◌, ◌<◌}
 use Rattle.std.proofs.Math.ListN.{length, length-append}
-use borrow.Author.Tests.{eq-eqb, ne_eqb, leb-true, ltb-true, eqb-true}
+use borrow.Author.Tests.{eq-eqb, ne_eqb, le-leb, leb-true, ltb-true, eqb-true}
 use Rattle.order.specs.Rules.{first_place}
-use Rattle.order.specs.Lowest.{held}
-use Rattle.order.specs.declared.Found.TheVariants.{Nowhere}
+use Rattle.order.specs.Lowest.{held, found}
+use Rattle.std.specs.declared.option.Option.{Option}
+use Rattle.std.specs.declared.option.Option.TheVariants.{Some, None}
 use Rattle.words.specs.Types.{type_of}
 use Rattle.image.specs.Numbers.{most_classes}
 use Rattle.image.specs.Trailer.{class_count, field_count}
@@ -25,7 +26,7 @@ use Rattle.laws.specs.Classes.{has_fields_zero, has_fields_on}
 use Rattle.classes.specs.Records.{field_open, field_rises_lem}
 use Rattle.classes.specs.Types.{low, super_is, super_below}
 use Rattle.classes.specs.Search.{lt_or_ge}
-use Rattle.rows.specs.Rows.{row_words, Row, Rows, Upto, NoneBelow, Owned, Copied, OwnFields, so_far, Part}
+use Rattle.rows.specs.Rows.{row_words, Sizes, Row, Rows, Upto, NoneBelow, Owned, Copied, OwnFields, so_far, Part}
 
 -- The fields that a class declares, by parts of the table.
 module _ (P : Program) (c : ℕ) where
@@ -115,7 +116,7 @@ row_kept {types} {d} {fs} w h c m t l =
 
 module _ (ws : List ℕ) (l : Layout) (g : Good ws l) where
   -- 10 keeps rows short
-  pub few : first_place (fields_rule ws) ≡ Nowhere → (c : ℕ) → c < class_count ws → length (has_fields (program ws) c) ≤ most_fields_above
+  pub few : first_place (fields_rule ws) ≡ None → (c : ℕ) → c < class_count ws → length (has_fields (program ws) c) ≤ most_fields_above
   unfolding fields_rule
   few e c h = leb-true _ _ (held (fields_rule ws) e c h)
 
@@ -132,28 +133,6 @@ module _ (ws : List ℕ) (l : Layout) (g : Good ws l) where
   part_few c j p h w =
       let e = ap length (has_fields_on (program ws) (low ws l g) c p) in
       rw e (rw (super_is ws c h) (simp length-append (omega (arith, own_le ws c j (field_count ws) w))))
-
--- Copying a row.
-pub copied_start : (types : List ℕ) (s c : ℕ) → Copied types types s c 0
-copied_start types s c = record { size = refl; same = λ k l. absurd (omega arith); kept = λ j l. refl }
-
-pub copied_on : {old new : List ℕ} {s c k : ℕ} → Copied old new s c k → s < c → k < row_words → row_words * c + k < length new
-    → Copied old (set new (row_words * c + k) (get_or new (row_words * s + k) 0)) s c (k + 1)
-copied_on {old} {new} {s} {c} {k} w l h b =
-    let v = get_or new (row_words * s + k) 0 in
-    record {
-      size = simp length-set w.size;
-      same =
-          λ j p.
-          ⊎_elim
-          (λ (z : j < k).
-          get_or-set_other new (row_words * c + k) (row_words * c + j) v 0 (λ y. omega arith) ∙ w.same j z)
-          (λ (z : k ≤ j).
-          let e : j ≡ k = omega arith in
-          rw (e, get_or-set_same new (row_words * c + k) v 0 b) (w.kept (row_words * s + k) (omega arith)))
-          (lt_or_ge j k);
-      kept = λ j p. get_or-set_other new (row_words * c + k) j v 0 (λ y. omega arith) ∙ w.kept j p;
-    }
 
 pub owned_on : (ws : List ℕ) (c i j : ℕ) → Owned ws c i j → field_word ws j 0 ≡ c → Owned ws c i (j + 1)
 owned_on ws c i j o e k p q =
@@ -210,7 +189,7 @@ module _ (ws : List ℕ) (l : Layout) (g : Good ws l) where
   field_type_lem j t e = ap type_of e
 
   -- A row that is begun, goes on, and ends.
-  module _ (short : first_place (fields_rule ws) ≡ Nowhere) where
+  module _ (short : first_place (fields_rule ws) ≡ None) where
     pub part_start : {counts old new : List ℕ} {c i s m : ℕ} → Upto ws counts old c i → 0 < c → c < class_count ws
         → s ≡ superclass ws c → m ≡ get_or counts s 0 → Copied old new s c m → Part ws new c i m
     part_start {counts} {old} {new} {c} {i} {s} {m} u p h e n w =
@@ -232,14 +211,28 @@ module _ (ws : List ℕ) (l : Layout) (g : Good ws l) where
           mine = rw all (record { each = λ j r. rw (w.same j (omega arith)) ((u.row s b).each j r) });
         }
 
+    -- the superclass's row is a lower one, and short
+    pub above_short : {counts types : List ℕ} {c i s : ℕ} → Upto ws counts types c i → 0 < c → c < class_count ws → s ≡ superclass ws c
+        → (s < c) × (c < most_classes) × (get_or counts s 0 ≤ most_fields_above)
+    above_short {counts} {types} {c} {i} {s} u p h e =
+        let b : s < c = rw e (super_below ws l g c h p) in
+        (b, omega (arith, g.small.classes, g.lay.class_count_lem), rw (u.count s b) (few ws l g short s (omega arith)))
+
     -- there is room for one field more
-    pub part_room : {types : List ℕ} {c j m : ℕ} → Part ws types c j m → 0 < c → c < class_count ws → j < field_count ws
+    part_room : {types : List ℕ} {c j m : ℕ} → Part ws types c j m → 0 < c → c < class_count ws → j < field_count ws
         → field_word ws j 0 ≡ c → m < most_fields_above
     part_room {types} {c} {j} {m} w p h k e =
         let f = part_few ws l g c (suc j) p h (omega arith) in
         let s = few ws l g short c h in
         let a = part_more c j e in
         omega (arith, w.count)
+
+    -- and it stands in the table
+    pub part_fits : {types : List ℕ} {c j m : ℕ} → Part ws types c j m → 0 < c → c < class_count ws → j < field_count ws
+        → field_word ws j 0 ≡ c → (m < most_fields_above) × (c < most_classes) × (row_words * c + m < length types)
+    part_fits w p h k e =
+        let r = part_room w p h k e in
+        (r, omega (arith, g.small.classes, g.lay.class_count_lem), omega (arith, w.size))
 
     pub part_on : {types : List ℕ} {c j m : ℕ} → Part ws types c j m → 0 < c → c < class_count ws → j < field_count ws
         → field_word ws j 0 ≡ c → (t : ℕ) → t ≡ field_word ws j 2 → Part ws (set types (row_words * c + m) t) c (j + 1) (m + 1)
@@ -308,7 +301,7 @@ module _ (ws : List ℕ) (l : Layout) (g : Good ws l) where
         after = λ j q r. omega (arith, (field_open ws j (g.fields j r)).user);
       }
 
-  pub upto_end : {counts types : List ℕ} {c i : ℕ} → first_place (fields_rule ws) ≡ Nowhere → Upto ws counts types c i → class_count ws ≤ c
+  pub upto_end : {counts types : List ℕ} {c i : ℕ} → first_place (fields_rule ws) ≡ None → Upto ws counts types c i → class_count ws ≤ c
       → Rows ws counts types
   upto_end short u h =
       record {
@@ -321,3 +314,15 @@ module _ (ws : List ℕ) (l : Layout) (g : Good ws l) where
         size = u.type_size;
         row = λ d q. u.row d (omega arith);
       }
+
+-- A table of the fields of every class is one of an image whose classes 10 accepts.
+pub fields_kept : {ws counts : List ℕ} → Sizes ws counts → first_place (fields_rule ws) ≡ None
+unfolding fields_rule
+fields_kept {ws} {counts} s = go (first_place (fields_rule ws)) refl
+  where
+    go : (o : Option ℕ) → first_place (fields_rule ws) ≡ o → o ≡ None
+    go None e = refl
+    go (Some c) e =
+        let b = (found (fields_rule ws) c e).broken in
+        let h = le-leb _ _ (s.few c b.within) in
+        absurd (let f = b.fails in cc)

@@ -1,5 +1,5 @@
 -- The numbers a caller gets, 10 to 20, and the rules of the three public questions. 1 to 9 are the layout's.
-use Rattle.std.specs.Prelude.{ℕ, zero, suc, ◌+◌, ◌*◌, ◌/◌, ◌%◌, max, Bool, true, cond, ◌&&◌, List, [], ◌∷◌, ◌++◌, map, ltb, leb, eqb, length, get_or}
+use Rattle.std.specs.Prelude.{ℕ, zero, suc, ◌+◌, ◌*◌, ◌/◌, ◌%◌, max, Bool, true, cond, ◌&&◌, List, [], ◌∷◌, ◌++◌, map, ltb, leb, eqb, length, get_or, is_some}
 use Rattle.std.proofs.Math.Option.{Option, none, some}
 use Rattle.order.specs.Rules.{Rule}
 use Rattle.order.specs.declared.Answer.{Answer}
@@ -9,7 +9,7 @@ use Rattle.words.specs.declared.Value.{Value}
 use Rattle.words.specs.declared.Value.TheVariants.{Addr}
 use Rattle.words.specs.declared.Ty.{Ty}
 use Rattle.words.specs.declared.Ty.TheVariants.{Void}
-use Rattle.words.specs.Value.{value_of, is_is, addresses}
+use Rattle.words.specs.Value.{value_of, addresses}
 use Rattle.image.specs.Trailer.{class_count, method_count, input_count}
 use Rattle.image.specs.Layout.{tested, layout_rules}
 use Rattle.rules.specs.Maps.{tabulate}
@@ -94,7 +94,7 @@ heap_length_rule hs = tested 14 (heap_length_holds (length hs) ∷ [])
 unfoldable pub slot_word_holds : Program → (classes first k word : ℕ) → Bool
 slot_word_holds P classes first zero word = leb first classes
 slot_word_holds P classes zero (suc j) word = eqb word 0
-slot_word_holds P classes (suc c) (suc j) word = cond (ltb j (length (has_fields P c))) (is_is (value_of word)) (eqb word 0)
+slot_word_holds P classes (suc c) (suc j) word = cond (ltb j (length (has_fields P c))) (is_some (value_of word)) (eqb word 0)
 
 -- the first word of the slot of word i
 abbrev pub slot_first : List ℕ → ℕ → ℕ
@@ -111,7 +111,7 @@ heap_word_rule ws hs =
 -- 16: at main's count, that there are as many; at an input, that it is a value
 unfoldable pub input_holds : (count : ℕ) → List ℕ → ℕ → Bool
 input_holds count is i =
-    cond (eqb i count) (eqb (length is) count) true && cond (ltb i (length is)) (is_is (value_of (get_or is i 0))) true
+    cond (eqb i count) (eqb (length is) count) true && cond (ltb i (length is)) (is_some (value_of (get_or is i 0))) true
 
 unfoldable pub input_rule : (ws is : List ℕ) → Rule
 input_rule ws is =

@@ -2,8 +2,8 @@
 use Rattle.std.specs.Prelude.{ℕ, zero, suc, ◌-◌, List, [], ◌∷◌, ◌++◌, get_or}
 use Rattle.std.proofs.Math.Option.{Option, none}
 use Rattle.words.specs.declared.Value.{Value}
-use Rattle.words.specs.declared.Decoded.{Decoded}
-use Rattle.words.specs.declared.Decoded.TheVariants.{Is, Not}
+use Rattle.std.specs.declared.option.Option.{Option as Maybe}
+use Rattle.std.specs.declared.option.Option.TheVariants.{Some, None}
 use Rattle.words.specs.declared.Ty.{Ty}
 use Rattle.words.specs.Value.{value_with}
 use Rattle.words.specs.Types.{type_of}
@@ -46,9 +46,9 @@ operand ws n (suc j) = operand ws n j - node_word ws (operand ws n j) 1
 abbrev pub nothing : Expr
 nothing = val 0 Value.Unit
 
-abbrev pub written : Decoded → Value
-written (Is v) = v
-written Not = Value.Unit
+abbrev pub written : Maybe Value → Value
+written (Some v) = v
+written None = Value.Unit
 
 -- a Call's last k operands
 unfoldable pub arguments : (ℕ → Expr) → (k : ℕ) → Exprs

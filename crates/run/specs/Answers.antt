@@ -11,12 +11,23 @@ use Rattle.rules.specs.Numbers.{run_rules, end_numbers}
 use Rattle.refusals.specs.Refusals.{refusal_numbers}
 use Rattle.refusals.specs.declared.Refusal.{Refusal}
 use Rattle.run.specs.declared.Told.{Told}
-use Rattle.run.specs.declared.Ran.{Ran}
-use Rattle.run.specs.declared.Ran.TheVariants.{Refused, Ended as Over}
+use Rattle.ends.specs.declared.Finished.{Finished}
+use Rattle.std.specs.declared.result.Result.{Result}
+use Rattle.std.specs.declared.result.Result.TheVariants.{Ok, Err}
+
+-- the answer to a run: a refusal, or an end and a count
+abbrev pub Ran : Type 0
+Ran = Result Finished Refusal
+
+abbrev pub Refused : Refusal → Ran
+Refused f = Err f
+
+abbrev pub Over : End → (count : ℕ) → Ran
+Over e k = Ok (record { end = e; count = k })
 
 abbrev pub ran_numbers : Ran → Answer
-ran_numbers (Refused f) = refusal_numbers f
-ran_numbers (Over e k) = end_numbers e
+ran_numbers (Err f) = refusal_numbers f
+ran_numbers (Ok r) = end_numbers r.end
 
 -- the word that an end carries, and what a caller gets of an answer
 abbrev pub end_word : End → ℕ
@@ -27,9 +38,10 @@ end_word TooDeep = 0
 end_word (Stuck q) = 0
 
 abbrev pub told_of : Ran → Told
-told_of (Refused f) =
+told_of (Err f) =
     record { number = (refusal_numbers f).number; place = (refusal_numbers f).place; count = 0; value = 0 }
-told_of (Over e k) = record { number = (end_numbers e).number; place = (end_numbers e).place; count = k; value = end_word e }
+told_of (Ok r) =
+    record { number = (end_numbers r.end).number; place = (end_numbers r.end).place; count = r.count; value = end_word r.end }
 
 module _ (ws hs is lent : List ℕ) (steps depth : ℕ) where
   -- a refusal tells the first breach, and changes no word; an end tells the definition's run, and clears the room
@@ -46,5 +58,5 @@ module _ (ws hs is lent : List ℕ) (steps depth : ℕ) where
     pub room : room' ≡ replicate (length lent) 0
 
   abbrev pub Answers : Ran → (heap' room' : List ℕ) → Type 0
-  Answers (Refused f) heap' room' = Refuses f heap' room'
-  Answers (Over e k) heap' room' = Ends e k heap' room'
+  Answers (Err f) heap' room' = Refuses f heap' room'
+  Answers (Ok r) heap' room' = Ends r.end r.count heap' room'

@@ -5,7 +5,7 @@ use Rattle.std.proofs.Math.Dec.{leb}
 use borrow.Author.Tests.{ltb-true, lt-ltb, leb-true, le-ltb, eqb-true, ne_eqb}
 use Rattle.order.specs.Rules.{first_place, accepted, or_else, answer_of}
 use Rattle.order.specs.Lowest.{held, after_broken, after_sound}
-use Rattle.order.specs.declared.Found.TheVariants.{At, Nowhere}
+use Rattle.std.specs.declared.option.Option.TheVariants.{Some, None}
 use Rattle.image.specs.declared.Breach.{Breach}
 use Rattle.image.specs.Laws.{and_left, and_right}
 use Rattle.image.specs.declared.Layout.{Layout}
@@ -31,7 +31,7 @@ use Rattle.start.specs.StartLaws.{filled_store, filled_fit}
 
 -- What a run that nothing stands against begins with.
 module _ (ws hs is : List ℕ) (room depth : ℕ) (free : Free ws hs is room depth) where
-  pub heap_ok : first_place (fields_rule ws) ≡ Nowhere → HeapOk ws hs 0
+  pub heap_ok : first_place (fields_rule ws) ≡ None → HeapOk ws hs 0
   unfolding fields_rule heap_word_rule heap_length_holds
   heap_ok few =
       let long = free.heap_length in
@@ -103,10 +103,10 @@ module _ (ws hs is : List ℕ) (room depth : ℕ) where
   layout_sound e = after_sound 0 (layout_rules ws) _ (layout_rising ws) e
 
   -- what the answers are, by what was found
-  pub fields_refused : (p : ℕ) → accepted ≡ answer_of (layout_rules ws) → first_place (fields_rule ws) ≡ At p
+  pub fields_refused : (p : ℕ) → accepted ≡ answer_of (layout_rules ws) → first_place (fields_rule ws) ≡ Some p
       → record { number = 10; place = p } ≡ answer_of (run_rules ws hs is room depth)
   fields_refused p e f = rw f at (layout_sound e)
 
-  pub lent_asked : accepted ≡ answer_of (layout_rules ws) → first_place (fields_rule ws) ≡ Nowhere
+  pub lent_asked : accepted ≡ answer_of (layout_rules ws) → first_place (fields_rule ws) ≡ None
       → answer_of (lent_rules ws hs is room depth) ≡ answer_of (run_rules ws hs is room depth)
   lent_asked e f = rw f at (layout_sound e)

@@ -18,10 +18,9 @@ use Rattle.rules.specs.Numbers.{fields_rule, heap_length_rule, heap_word_rule, i
 use Rattle.reduction.proofs.RunLaws.{run_runs, counted}
 use Rattle.refusals.specs.declared.Refusal.{Refusal}
 use Rattle.refusals.specs.declared.Refusal.TheVariants.{Layout, Fields, HeapLength, HeapWord, Input, Depth, Room}
-use Rattle.run.specs.declared.Ran.{Ran}
-use Rattle.run.specs.declared.Ran.TheVariants.{Refused, Ended as Over}
+use Rattle.std.specs.declared.result.Result.TheVariants.{Ok, Err}
 use Rattle.refusals.specs.Refusals.{refusal_numbers}
-use Rattle.run.specs.Answers.{Refuses, Ends, Answers}
+use Rattle.run.specs.Answers.{Ran, Refuses, Ends, Answers}
 
 rising : (ws hs is : List ℕ) (room depth : ℕ) → Rising 0 (run_rules ws hs is room depth)
 unfolding run_rules layout_rules record_rules format_rule trailer_rule ceiling_rule class_rule field_rule method_rule type_rule node_rule body_rule tested fields_rule heap_length_rule heap_word_rule input_rule depth_rule room_rule
@@ -75,12 +74,14 @@ module _ (ws hs is lent : List ℕ) (steps depth : ℕ) where
   pub one_answer : (a b : Ran) (heap room heap' room' : List ℕ) → Answers ws hs is lent steps depth a heap room
       → Answers ws hs is lent steps depth b heap' room'
       → (a ≡ b) × (heap ≡ heap') × (room ≡ room')
-  one_answer (Refused f) (Refused g) heap room heap' room' p q =
-      (ap Refused (same_refusal f g (p.numbers ∙ sym q.numbers)), p.heap ∙ sym q.heap, p.room ∙ sym q.room)
-  one_answer (Over e k) (Over d j) heap room heap' room' p q =
-      (rw (p.end, p.count, q.end, q.count), p.heap ∙ sym q.heap, p.room ∙ sym q.room)
-  one_answer (Refused f) (Over d j) heap room heap' room' p q = absurd (both f d j heap room heap' room' p q)
-  one_answer (Over e k) (Refused g) heap room heap' room' p q = absurd (both g e k heap' room' heap room q p)
+  one_answer (Err f) (Err g) heap room heap' room' p q =
+      (ap Err (same_refusal f g (p.numbers ∙ sym q.numbers)), p.heap ∙ sym q.heap, p.room ∙ sym q.room)
+  one_answer (Ok r) (Ok s) heap room heap' room' p q = (same, p.heap ∙ sym q.heap, p.room ∙ sym q.room)
+    where
+      same : ◌≡◌ {A = Ran} (Ok r) (Ok s)
+      same = rw (p.end, p.count, q.end, q.count)
+  one_answer (Err f) (Ok s) heap room heap' room' p q = absurd (both f s.end s.count heap room heap' room' p q)
+  one_answer (Ok r) (Err g) heap room heap' room' p q = absurd (both g r.end r.count heap' room' heap room q p)
 
   -- the count is never above the limit
   pub count_within : (e : End) (k : ℕ) (heap room : List ℕ) → Ends ws hs is lent steps depth e k heap room → k ≤ steps

@@ -1,6 +1,6 @@
 -- From the words of a heap and inputs to conformity, and from a heap that conforms back to words that 14, 15 and 17 accept.
 use Prim.Native.Nat.{ℕ, zero, suc, ◌+◌, ◌*◌, ◌-◌, ◌/◌, ◌%◌, ◌≤◌, ◌<◌, max}
-use Rattle.std.specs.Prelude.{◌≡◌, Bool, ◌&&◌}
+use Rattle.std.specs.Prelude.{◌≡◌, Bool, ◌&&◌, is_some as is_some_value}
 use Rattle.std.proofs.Math.Path.{refl, sym, ap}
 use Rattle.std.proofs.Common.{◌∙◌}
 use Rattle.std.proofs.Math.Bool.{true, false, cond}
@@ -14,7 +14,7 @@ use Rattle.order.specs.Rules.{answer_of, accepted}
 use Rattle.words.specs.declared.Value.{Value}
 use Rattle.words.specs.declared.Ty.{Ty}
 use Rattle.words.specs.declared.Ty.TheVariants.{Void}
-use Rattle.words.specs.Value.{Proper, value_of, is_is}
+use Rattle.words.specs.Value.{Proper, value_of}
 use Rattle.image.specs.Laws.{and_left, and_right}
 use Rattle.image.specs.Trailer.{class_count, input_count}
 use Rattle.image.specs.Layout.{tested, format_rule, trailer_rule, ceiling_rule, class_rule, field_rule, method_rule, type_rule, node_rule, body_rule, record_rules, layout_rules}
@@ -131,7 +131,7 @@ module _ (ws : List ℕ) (low : Lower (program ws)) where
     input_count_lem =
         let n = input_count ws in
         let h = S.inputs n (below_max (length is) n) in
-        let value = cond (ltb n (length is)) (is_is (value_of (get_or is n 0))) true in
+        let value = cond (ltb n (length is)) (is_some_value (value_of (get_or is n 0))) true in
         eqb-true _ _ (and_left (eqb (length is) n) value (rw (eq-eqb n n refl) at h))
       where
         below_max : (a b : ℕ) → b < suc (max a b)

@@ -9,8 +9,8 @@ use native.Mathlib.Omega.{arith}
 use Rattle.std.proofs.Math.Dec.{eqb}
 use Rattle.std.proofs.Math.ListN.{get_or-eq_default}
 use borrow.Author.Tests.{ltb-true, ltb-false}
-use Rattle.order.specs.declared.Found.{Found}
-use Rattle.order.specs.declared.Found.TheVariants.{At, Nowhere}
+use Rattle.std.specs.declared.option.Option.{Option}
+use Rattle.std.specs.declared.option.Option.TheVariants.{Some, None}
 use Rattle.order.specs.declared.Answer.{Answer}
 use Rattle.order.specs.Rules.{Rule, answer_of, accepted, first_place, or_else}
 use Rattle.order.specs.Lowest.{held, found}
@@ -51,21 +51,21 @@ all_held [] p e = tt
 all_held (r ∷ rs) p e =
     let k = go (first_place r) refl e in (k.0, all_held rs (and_right (ltb 0 r.number) (positive rs) p) k.1)
   where
-    go : (f : Found) → first_place r ≡ f → or_else r.number f (answer_of rs) ≡ accepted → Held r × (answer_of rs ≡ accepted)
-    go (At q) f z =
+    go : (f : Option ℕ) → first_place r ≡ f → or_else r.number f (answer_of rs) ≡ accepted → Held r × (answer_of rs ≡ accepted)
+    go (Some q) f z =
         let n : r.number ≡ 0 = ap (λ (a : Answer). a.number) z in
         absurd (omega (arith, ltb-true 0 r.number (and_left (ltb 0 r.number) (positive rs) p)))
-    go Nowhere f z = (held r f, z)
+    go None f z = (held r f, z)
 
 -- and then it is broken nowhere
-pub nowhere : (r : Rule) → Held r → first_place r ≡ Nowhere
+pub nowhere : (r : Rule) → Held r → first_place r ≡ None
 nowhere r h = go (first_place r) refl
   where
-    go : (f : Found) → first_place r ≡ f → f ≡ Nowhere
-    go (At p) e =
+    go : (f : Option ℕ) → first_place r ≡ f → f ≡ None
+    go (Some p) e =
         let b = (found r p e).broken in
         absurd (let z : ◌≡◌ {A = ℕ} 0 1 = cc (h p b.within, b.fails) in omega arith)
-    go Nowhere e = refl
+    go None e = refl
 
 pub held_answer : (rs : List Rule) → AllHeld rs → answer_of rs ≡ accepted
 unfolding answer_of

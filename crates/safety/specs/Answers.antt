@@ -5,7 +5,7 @@ use Rattle.order.specs.declared.Answer.{Answer}
 use Rattle.order.specs.Rules.{answer_of, accepted}
 use Rattle.words.specs.declared.Value.{Value}
 use Rattle.words.specs.declared.Value.TheVariants.{Addr}
-use Rattle.words.specs.declared.Decoded.TheVariants.{Is}
+use Rattle.std.specs.declared.option.Option.TheVariants.{Some}
 use Rattle.words.specs.declared.Ty.{Ty}
 use Rattle.words.specs.Value.{value_of, word_of}
 use Rattle.image.specs.Trailer.{class_count}
@@ -28,10 +28,10 @@ pub record Ran (ws hs is : List ℕ) (steps depth : ℕ) (end : Answer) (word : 
 
 -- what it tells: a value of main's type t, an object's address, or a limit; 34, stuck, is not among them
 pub data Told (ws : List ℕ) (t : Ty) (end : Answer) (word : Option ℕ) (heap : List ℕ) : Type 0 where
-  returned : (w : ℕ) (v : Value) → end.number ≡ 30 → word ≡ some w → value_of w ≡ Is v
+  returned : (w : ℕ) (v : Value) → end.number ≡ 30 → word ≡ some w → value_of w ≡ Some v
       → conforms (program ws) (heap_of (program ws) heap) v t ≡ true
       → Told ws t end word heap
-  threw : (w a c : ℕ) → end.number ≡ 31 → word ≡ some w → value_of w ≡ Is (Addr a) → get_or heap (slot_words * a) 0 ≡ suc c
+  threw : (w a c : ℕ) → end.number ≡ 31 → word ≡ some w → value_of w ≡ Some (Addr a) → get_or heap (slot_words * a) 0 ≡ suc c
       → c < class_count ws
       → Told ws t end word heap
   out_of_steps : end.number ≡ 32 → Told ws t end word heap

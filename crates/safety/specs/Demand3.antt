@@ -1,6 +1,6 @@
 -- Demand 3, type safety, over the words of an image, a heap and inputs. The statement comes first.
 use Rattle.std.specs.Prelude.{ℕ, ◌≡◌, true, List}
-use Rattle.order.specs.declared.Found.TheVariants.{Nowhere}
+use Rattle.std.specs.declared.option.Option.TheVariants.{None}
 use Rattle.order.specs.Rules.{answer_of, accepted, first_place}
 use Rattle.words.specs.declared.Value.{Value}
 use Rattle.words.specs.declared.Ty.{Ty}
@@ -24,9 +24,9 @@ EndsWell ws t h (Stuck q) = ⊥
 -- It ends well, and 14, 15 and 17 are broken nowhere in the heap's words that it leaves.
 pub record SafeRun (ws : List ℕ) (t : Ty) (e : Ended) : Type 0 where
   pub ends : EndsWell ws t e.heap e.end
-  pub slots : first_place (heap_length_rule (heap_after e)) ≡ Nowhere
-  pub words : first_place (heap_word_rule ws (heap_after e)) ≡ Nowhere
-  pub objects : first_place (heap_rule ws (heap_after e)) ≡ Nowhere
+  pub slots : first_place (heap_length_rule (heap_after e)) ≡ None
+  pub words : first_place (heap_word_rule ws (heap_after e)) ≡ None
+  pub objects : first_place (heap_rule ws (heap_after e)) ≡ None
 
 -- An image that the check accepts, with a heap and inputs that conform: main has a type, and every run is safe at that type,
 -- whatever its step limit and its depth limit.

@@ -1,12 +1,14 @@
 -- Laws: what the checks of the bodies, one after the other, say of rule 13.
-use Rattle.std.specs.Prelude.{◌≡◌, refl, Bool, true, false, List, ℕ, suc, ◌+◌, ◌≤◌, ◌<◌, leb}
+use Rattle.std.specs.Prelude.{◌≡◌, refl, true, List, ℕ, Result, Ok, Err, suc, ◌+◌, ◌≤◌, ◌<◌, leb}
 use Rattle.std.proofs.Common.{sym, ◌∙◌, arith, leb-true}
 use Rattle.std.proofs.Math.Path.{ap}
 use Rattle.std.proofs.Math.ListN.{length}
-use Rattle.order.specs.declared.Found.TheVariants.{At, Nowhere}
+use Rattle.std.specs.declared.option.Option.TheVariants.{Some}
+use Rattle.std.specs.Result.{result_err}
 use Rattle.order.specs.Rules.{first_place}
 use Rattle.words.specs.Types.{type_of}
 use Rattle.image.specs.declared.Layout.{Layout}
+use Rattle.image.specs.declared.views.Image.{Image}
 use Rattle.image.specs.Numbers.{variables, most_arguments}
 use Rattle.image.specs.Trailer.{class_count, method_count, type_count, node_count, input_count}
 use Rattle.image.specs.Records.{method_word, type_at, member_holds, arguments_hold, method_rises, method_holds}
@@ -15,7 +17,7 @@ use Rattle.image.specs.Layout.{Good}
 use Rattle.image.specs.Laws.{and_left, and_right}
 use Rattle.rules.specs.Trees.{Expr, tree, places}
 use Rattle.rules.specs.Program.{types_from, method_at, main}
-use Rattle.rules.specs.Typing.{ok, need}
+use Rattle.rules.specs.Typing.{ok, bad}
 use Rattle.rules.specs.Setting.{Vars, between, setting}
 use Rattle.rules.specs.Sites.{reads}
 use Rattle.rules.specs.Numbers.{method_reads, all_reads, setting_rule}
@@ -24,27 +26,33 @@ use Rattle.laws.specs.Postorder.{body_holds_lem, method_filled, main_filled, bod
 use Rattle.figures.specs.FirstBreach.{AllHold}
 use Rattle.figures.proofs.FirstBreach.{reads_length, setting_after, setting_exactly, setting_first}
 use Rattle.figures.specs.Bodies.{Bodies, Told}
-use Rattle.figures.proofs.Bodies.{told, body_told, main_told, none_told}
+use Rattle.vars.specs.Vars.{vars_of}
+use Rattle.vars.specs.declared.Vars.{Vars as Marked}
+use Rattle.setting.specs.Settle.{res_of}
+use Rattle.figures.proofs.Bodies.{told, body_told, main_told, none_told, held_on}
 
 -- ONE TREE
 -- what a tree's check says of its tests, and of their first failure where its nodes stand from b on
-set_holds : (e : Expr) (I K : Vars) → setting e I ≡ ok K → AllHold (reads e I)
-set_holds e I K q = (setting_exactly e I).0 (q ∙ ap ok (sym (setting_after e I K q)))
+all_set : (e : Expr) (I K : Vars) → ok K ≡ setting e I → AllHold (reads e I)
+all_set e I K q = (setting_exactly e I).0 (sym q ∙ ap ok (sym (setting_after e I K (sym q))))
 
-module _ (e : Expr) (I : Vars) (t : Bool) (p : ℕ) (K : Vars) (h : need t p K ≡ setting e I) where
-  pub all_set : t ≡ true → AllHold (reads e I)
-  unfolding need
-  all_set q = set_holds e I K (sym h ∙ rw q)
-
-  first_unset : (b n : ℕ) → places e ≡ stretch (λ j. j) b n → t ≡ false → Told b (reads e I) p
-  unfolding need
-  first_unset b n r q = told b n (reads e I) (places e) p r (setting_first e I p (sym h ∙ rw q))
+first_unset : (e : Expr) (I : Vars) (p b n : ℕ) → places e ≡ stretch (λ j. j) b n → bad p ≡ setting e I → Told b (reads e I) p
+first_unset e I p b n r q = told b n (reads e I) (places e) p r (setting_first e I p (sym q))
 
 few : (types first count : ℕ) → arguments_hold types first count ≡ true → count < variables
 unfolding arguments_hold
 few types first count h = omega (arith, leb-true count most_arguments (and_left _ (leb (first + count) types) h))
 
-module _ (ws : List ℕ) (l : Layout) (g : Good ws l) where
+module _ (image : Image) where
+  abbrev ws : List ℕ
+  ws = image.words.now
+
+  abbrev l : Layout
+  l = image.layout
+
+  g : Good ws l
+  g = image.good
+
   -- WHERE BODIES STAND
   hold : (n : ℕ) → n < node_count ws → node_holds ws n ≡ true
   hold = g.nodes
@@ -61,8 +69,8 @@ module _ (ws : List ℕ) (l : Layout) (g : Good ws l) where
 
     pub body_within : method_word ws i 5 < l.node_count
     body_within =
-        rw g.lay.node_count_lem
-        (body_holds_lem ws (body_start ws i) (method_word ws i 5) (method_filled ws i below_count (filled i (omega (arith, below_count))))).0
+        omega
+        (arith, g.lay.node_count_lem, (body_holds_lem ws (body_start ws i) (method_word ws i 5) (method_filled ws i below_count (filled i (omega (arith, below_count))))).0)
 
     pub few_arguments : method_word ws i 4 < variables
     unfolding method_holds
@@ -93,27 +101,24 @@ module _ (ws : List ℕ) (l : Layout) (g : Good ws l) where
   abbrev pub Held : ℕ → Type 0
   Held i = (j : ℕ) → j < i → AllHold (method_reads ws j)
 
-  module _ (t : Bool) (p : ℕ) (K : Vars) where
-    pub method_unset : (i : ℕ) → i < l.method_count → Held i → need t p K ≡ setting (method_at ws i).body (between 0 (length (method_at ws i).params)) → t ≡ false
-        → At p ≡ first_place (setting_rule ws)
-    unfolding setting_rule all_reads method_reads
-    method_unset i w h q e =
-        let m = below_count i w in
-        body_told starts 13 (reads (main ws) (between 1 (input_count ws))) p i m h
-        (first_unset (method_at ws i).body (between 0 (length (method_at ws i).params)) t p K q (body_start ws i) (body_start ws (suc i)) (body_places ws hold filled i m) e)
+  pub method_unset : (i p : ℕ) → i < l.method_count → Held i → bad p ≡ setting (method_at ws i).body (between 0 (length (method_at ws i).params))
+      → Some p ≡ first_place (setting_rule ws)
+  unfolding setting_rule all_reads method_reads
+  method_unset i p w h q =
+      let m = below_count i w in
+      body_told starts 13 (reads (main ws) (between 1 (input_count ws))) p i m h
+      (first_unset (method_at ws i).body (between 0 (length (method_at ws i).params)) p (body_start ws i) (body_start ws (suc i)) (body_places ws hold filled i m) q)
 
-    pub main_unset : Held l.method_count → need t p K ≡ setting (main ws) (between 1 (input_count ws)) → t ≡ false → At p ≡ first_place (setting_rule ws)
-    unfolding setting_rule all_reads
-    main_unset h q e =
-        main_told starts 13 (reads (main ws) (between 1 (input_count ws))) p (rw g.lay.method_count_lem at h)
-        (first_unset (main ws) (between 1 (input_count ws)) t p K q (body_start ws (method_count ws)) (node_count ws) (main_places ws hold filled) e)
+  pub method_set : (i : ℕ) (K : Vars) → Held i → ok K ≡ setting (method_at ws i).body (between 0 (length (method_at ws i).params)) → Held (i + 1)
+  unfolding method_reads
+  method_set i K h q = held_on (method_reads ws) i h (all_set (method_at ws i).body (between 0 (length (method_at ws i).params)) K q)
 
-    pub none_unset : Held l.method_count → need t p K ≡ setting (main ws) (between 1 (input_count ws)) → t ≡ true → Nowhere ≡ first_place (setting_rule ws)
-    unfolding setting_rule all_reads
-    none_unset h q e =
-        none_told (method_reads ws) (method_count ws) 13 (reads (main ws) (between 1 (input_count ws))) (rw g.lay.method_count_lem at h)
-        (all_set (main ws) (between 1 (input_count ws)) t p K q e)
-
-    pub method_set : (i : ℕ) → need t p K ≡ setting (method_at ws i).body (between 0 (length (method_at ws i).params)) → t ≡ true → AllHold (method_reads ws i)
-    unfolding method_reads
-    method_set i q e = all_set (method_at ws i).body (between 0 (length (method_at ws i).params)) t p K q e
+  -- main's answer is the rule's, once each method's body passed
+  pub main_place : Held l.method_count → (r : Result Marked ℕ) → res_of r ≡ setting (main ws) (between 1 (input_count ws)) → result_err r ≡ first_place (setting_rule ws)
+  unfolding setting_rule all_reads
+  main_place h (Err p) q =
+      main_told starts 13 (reads (main ws) (between 1 (input_count ws))) p (λ j k. h j (omega (arith, g.lay.method_count_lem)))
+      (first_unset (main ws) (between 1 (input_count ws)) p (body_start ws (method_count ws)) (node_count ws) (main_places ws hold filled) q)
+  main_place h (Ok v) q =
+      none_told (method_reads ws) (method_count ws) 13 (reads (main ws) (between 1 (input_count ws))) (λ j k. h j (omega (arith, g.lay.method_count_lem)))
+      (all_set (main ws) (between 1 (input_count ws)) (vars_of v) q)

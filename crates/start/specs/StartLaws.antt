@@ -1,41 +1,33 @@
 -- Laws: how the room begins.
-use Rattle.std.specs.Prelude.{◌≡◌, Bool, List, map, get_or, set, replicate}
+use Rattle.std.specs.Prelude.{◌≡◌, Bool, List, map, ◌++◌, get_or, set, take, drop, replicate}
 use Rattle.std.proofs.Math.Path.{refl}
-use Rattle.std.proofs.Common.{sym, ◌∙◌, ap, arith, get_or-set_same, get_or-set_other, ext_get_or}
+use Rattle.std.proofs.Common.{sym, ◌∙◌, ap, arith, get_or-set_same, get_or-set_other}
 use Rattle.std.proofs.Math.Bool.{true, false}
 use Rattle.std.proofs.Math.Option.{some}
 use Prim.Native.Nat.{ℕ, zero, suc, ◌+◌, ◌≤◌, ◌<◌}
 use Rattle.std.proofs.Math.Decide.{ℕ_discrete}
 use Rattle.std.proofs.Math.Dec.{ltb}
 use Rattle.std.proofs.Math.ListN.{length, length-map}
-use Rattle.std.proofs.lemmas.List.{length-replicate, get_or-replicate}
+use Rattle.std.proofs.lemmas.List.{length-replicate, get_or-replicate, get_or_append_left, length-append, length-take-le, length-drop}
 use borrow.Author.Tests.{ltb-true, ltb-false}
 use Rattle.image.specs.Numbers.{variables}
 use Rattle.rules.specs.Maps.{from}
 use Rattle.rules.specs.Heap.{values_of}
 use Rattle.laws.specs.Maps.{from_at, from_below, from_beyond, get_d_map}
 use Rattle.laws.specs.Values.{value_at, IsValue}
-use Rattle.laws.specs.Heap.{words}
 use Rattle.room.specs.Room.{search_word, frame_at, held as holding, store_of, Held, Fit}
 use Rattle.room.specs.RoomLaws.{store_at}
 use Rattle.start.specs.Start.{start_words, Zeros, Filled}
 
--- the first words become 0 one after the other
-pub zeros_start : (room : List ℕ) → Zeros room 0
-zeros_start room = record { zero = λ j h. absurd (omega arith) }
-
-pub zeros_on : {room : List ℕ} {i : ℕ} → Zeros room i → i < length room → Zeros (set room i 0) (i + 1)
-zeros_on {room} {i} z h = record { zero = λ j l. go j l (ℕ_discrete j i) }
-  where
-    go : (j : ℕ) → j < i + 1 → Dec (j ≡ i) → get_or (set room i 0) j 0 ≡ 0
-    go j l (yes e) = rw (e, get_or-set_same room i 0 0 h)
-    go j l (no d) = get_or-set_other room i j 0 0 d ∙ z.zero j (omega arith)
-
--- until all are
-pub zeros_all : (room : List ℕ) (n : ℕ) → Zeros room n → length room ≤ n → room ≡ replicate (length room) 0
-zeros_all room n z h =
-    ext_get_or 0 room (replicate (length room) 0) (sym (length-replicate (length room) 0))
-    (λ i l. z.zero i (omega arith) ∙ sym (get_or-replicate (length room) i 0 0 l))
+-- the first words become 0, and no word goes
+pub zeros_front : {xs : List ℕ} (room : List ℕ) (n : ℕ) → n ≤ length room → xs ≡ replicate (length (take n room)) 0
+    → Zeros (xs ++ drop n room) n × (length (xs ++ drop n room) ≡ length room)
+zeros_front {xs} room n h e =
+    let t = length-take-le n room h in
+    let m : length xs ≡ n = ap length e ∙ length-replicate _ 0 ∙ t in (
+      record { zero = λ j l. get_or_append_left xs (drop n room) 0 j (omega arith) ∙ rw e (get_or-replicate (length (take n room)) j 0 0 (omega (arith, t))) },
+      length-append xs (drop n room) ∙ rw (m, length-drop n room) (omega arith),
+    )
 
 -- and then the inputs are written
 pub filled_start : {is room : List ℕ} {n : ℕ} → Zeros room n → start_words ≤ n → Filled is room 0

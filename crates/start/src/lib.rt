@@ -13,11 +13,7 @@ const START_WORDS: usize = 65;
 pub fn clear(words: &mut [u64])
     ensures { words.new ≡ replicate (length words.old) 0 }
 {
-    let mut i = 0;
-    while i < words.len() {
-        words[i] = 0;
-        i += 1;
-    }
+    words.fill(0);
 }
 
 // The first words become 0: no variable is set, and New begins at slot 0.
@@ -25,11 +21,7 @@ pub fn clear_start(room: &mut [u64])
     requires { start_words ≤ length room.old }
     ensures { Zeros room.new start_words × (length room.new ≡ length room.old) }
 {
-    let mut i = 0;
-    while i < START_WORDS {
-        room[i] = 0;
-        i += 1;
-    }
+    room[..START_WORDS].fill(0);
 }
 
 // The inputs become variables, from 1 on.
@@ -37,9 +29,7 @@ pub fn set_inputs(room: &mut [u64], inputs: &[u64])
     requires { (start_words ≤ length room.old) × Zeros room.old start_words × (length inputs.now ≤ most_inputs) × ((k : ℕ) → k < length inputs.now → IsValue (get_or inputs.now k 0)) }
     ensures { Filled inputs.now room.new (length inputs.now) × (length room.new ≡ length room.old) }
 {
-    let mut i = 0;
-    while i < inputs.len() {
-        room[i + 1] = inputs[i] + 1;
-        i += 1;
+    for (i, input) in inputs.iter().enumerate() {
+        room[i + 1] = *input + 1;
     }
 }

@@ -4,24 +4,22 @@ use Rattle.std.proofs.Common.{mul-le-mul_right, suc-mul, arith}
 use Rattle.image.specs.Trailer.{node_count}
 use Rattle.image.specs.Nodes.{node_holds}
 use Rattle.room.specs.declared.Focus.{Focus}
-use Rattle.room.specs.declared.Focus.TheVariants.{Thrown}
+use Rattle.room.specs.declared.Focus.TheVariants.{Node, Value, Thrown}
 use Rattle.room.specs.Room.{search_word}
 use Rattle.room.specs.RoomLaws.{Kept}
 use Rattle.room.specs.Turn.{HeapOk, phi, Inv}
 use Rattle.room.specs.Leads.{Leads, Leaps}
 use Rattle.room.specs.LeadsLaws.{leads_none, leads_on, leaps_on, leads_kept}
-use Rattle.landings.specs.declared.Leap.{Leap}
-use Rattle.landings.specs.Lands.{Landing, Lands}
+use Rattle.landings.specs.Lands.{Low}
 use Rattle.strides.specs.Bound.{bound, phi_low}
 use Rattle.strides.specs.declared.Reached.{Reached}
-use Rattle.strides.specs.Reaches.{focus_at, Reaches}
+use Rattle.strides.specs.Reaches.{Reaches}
 
--- neither a node nor a value
-pub focus_thrown : (how word place : ℕ) → (how ≡ 1 → ⊥) → (how ≡ 2 → ⊥) → focus_at how word place ≡ Thrown word place
-focus_thrown zero word place d e = refl
-focus_thrown (suc zero) word place d e = absurd (d refl)
-focus_thrown (suc (suc zero)) word place d e = absurd (e refl)
-focus_thrown (suc (suc (suc how))) word place d e = refl
+-- a value is no deeper than a higher bound
+pub low_on : {m : ℕ} (D : ℕ) (f : Focus) (level : ℕ) → m ≤ D → Low m f level → Low D f level
+low_on D (Node n) level h a = tt
+low_on D (Value w) level h a = omega arith
+low_on D (Thrown b p) level h a = tt
 
 module _ (ws : List ℕ) (D : ℕ) where
   -- so far, with so many steps left
@@ -57,41 +55,20 @@ module _ (ws : List ℕ) (D : ℕ) where
     pub onward_kept : {new : List ℕ} → Kept room new l → Onward steps hs₀ room₀ l₀ f₀ hs new l f left
     onward_kept k = record { low = o.low; leads = leads_kept ws D o.leads k }
 
-  -- leaps in a row after others that throw, and after one
-  pub reaches_thrown : {steps : ℕ} {hs room : List ℕ} {l : ℕ} {f : Focus} {hs₁ room₁ hs₂ room₂ : List ℕ} {q r : Reached}
-      → Reaches ws D steps hs room l f hs₁ room₁ q → q.how ≡ 3
-      → Reaches ws D q.left hs₁ room₁ q.level (Thrown q.word q.place) hs₂ room₂ r
+  -- leaps in a row after others, and after one
+  pub reaches_on : {steps : ℕ} {hs room : List ℕ} {l : ℕ} {f : Focus} {hs₁ room₁ hs₂ room₂ : List ℕ} {q r : Reached}
+      → Reaches ws D steps hs room l f hs₁ room₁ q → Reaches ws D q.left hs₁ room₁ q.level q.focus hs₂ room₂ r
       → Reaches ws D steps hs room l f hs₂ room₂ r
-  reaches_thrown {steps} {q = q} {r = r} a t b =
+  reaches_on {steps} {q = q} {r = r} a b =
       let e : steps - r.left ≡ steps - q.left + (q.left - r.left) = omega (arith, a.low, b.low) in
-      record { low = omega (arith, a.low, b.low); leads = rw e (leads_on ws D (rw t at a.leads) b.leads) }
+      record { low = omega (arith, a.low, b.low); leads = rw e (leads_on ws D a.leads b.leads) }
 
   pub leap_reaches : {left k : ℕ} {hs room : List ℕ} {l : ℕ} {f : Focus} {hs₁ room₁ : List ℕ} {l₁ : ℕ} {f₁ : Focus} {hs₂ room₂ : List ℕ} {r : Reached}
       → Leaps ws D k hs room l f hs₁ room₁ l₁ f₁ → k ≤ left → Reaches ws D (left - k) hs₁ room₁ l₁ f₁ hs₂ room₂ r
-      → Leaps ws D (left - r.left) hs room l f hs₂ room₂ r.level (focus_at r.how r.word r.place) × (r.left ≤ left)
+      → Leaps ws D (left - r.left) hs room l f hs₂ room₂ r.level r.focus × (r.left ≤ left)
   leap_reaches {left} {k} {r = r} a h b =
       let e : left - r.left ≡ k + (left - k - r.left) = omega (arith, b.low) in
       (rw e (leaps_on ws D a b.leads), omega (arith, b.low))
-
-  -- what a leap tells
-  module _ {top : ℕ} {hs room : List ℕ} {l : ℕ} {f : Focus} {hs' room' : List ℕ} {r : Leap}
-      (a : Lands ws D top hs room l f hs' room' r) where
-    pub lands_none : r.how ≡ 0 → Kept room room' l × (hs' ≡ hs)
-    lands_none e = rw e at a.landing
-
-    pub lands_leaps : (r.how ≡ 0 → ⊥) → Leaps ws D r.steps hs room l f hs' room' r.level (focus_at r.how r.word r.place)
-    lands_leaps d = go r.how d a.landing
-      where
-        go : (how : ℕ) → (how ≡ 0 → ⊥) → Landing ws D top hs room l f hs' room' how r.word r.place r.level r.steps
-            → Leaps ws D r.steps hs room l f hs' room' r.level (focus_at how r.word r.place)
-        go zero d b = absurd (d refl)
-        go (suc zero) d b = b
-        go (suc (suc zero)) d b = b.0
-        go (suc (suc (suc zero))) d b = b
-        go (suc (suc (suc (suc how)))) d b = absurd b
-
-    pub lands_low : r.how ≡ 2 → r.level ≤ top
-    lands_low e = let b = rw e at a.landing in b.1
 
 module _ (ws : List ℕ) (good : (n : ℕ) → n < node_count ws → node_holds ws n ≡ true) (D : ℕ) where
   -- no steps, or some
@@ -122,7 +99,7 @@ module _ (ws : List ℕ) (good : (n : ℕ) → n < node_count ws → node_holds 
   -- what is left after leaps in a row
   pub reaches_less : {steps : ℕ} {hs room : List ℕ} {l : ℕ} {f : Focus} {hs' room' : List ℕ} {r : Reached}
       → Reaches ws D steps hs room l f hs' room' r
-      → fuel ws D r.left room' r.level (focus_at r.how r.word r.place) ≤ fuel ws D steps room l f
+      → fuel ws D r.left room' r.level r.focus ≤ fuel ws D steps room l f
   reaches_less {steps} {r = r} a =
       let e : steps - (steps - r.left) ≡ r.left = omega (arith, a.low) in
       rw e at (leads_less steps a.leads (omega arith))

@@ -2,24 +2,24 @@
 #![tactic(auto)]
 
 ghost use Rattle.std.specs.Prelude.{◌≡◌, ◌+◌, ◌-◌, ◌≤◌, get_or};
-ghost use Rattle.image.specs.Layout.{Good};
 ghost use Rattle.rows.specs.Rows.{Rows};
 ghost use Rattle.room.specs.declared.Focus.TheVariants.{Node, Value as Word, Thrown};
 ghost use Rattle.room.specs.Room.{search_word};
 ghost use Rattle.room.specs.Turn.{HeapOk, Inv};
 ghost use Rattle.memo.specs.Memo.{Memo};
-ghost use Rattle.strides.specs.Reaches.{focus_at, reached_at, landed_at, Reaches};
+ghost use Rattle.landings.specs.Lands.{Low};
+ghost use Rattle.strides.specs.Reaches.{Reaches};
 
-use image::Layout;
-use landings::{Leap, NODE, NONE, THROWN, VALUE};
+use image::Image;
+use landings::Leap;
 use room::Focus;
+use rows::Table;
 
-// Where leaps have come to: what is looked at, under how many frames, and the steps that are left.
+// Where leaps have come to: what is looked at, under how many frames, and the steps that are left. Not a `Leap`, which counts the steps that
+// were taken.
 #[derive(Clone, Copy)]
 pub struct Reached {
-    pub how: u64,
-    pub word: u64,
-    pub place: usize,
+    pub focus: Focus,
     pub level: usize,
     pub left: u64,
 }
@@ -27,98 +27,51 @@ pub struct Reached {
 // So many steps are left that every leap may be taken.
 const ENOUGH: u64 = 63;
 
-// A leap's end.
-fn landed(r: Leap, left: u64) -> Reached
-    ensures { result ≡ landed_at r left }
+// This is looked at.
+pub fn at(focus: Focus, level: usize, left: u64) -> Reached
+    ensures { result ≡ record { focus = focus; level = level; left = left } }
 {
-    Reached {
-        how: r.how,
-        word: r.word,
-        place: r.place,
-        level: r.level,
-        left: left,
-    }
-}
-
-// A node is looked at.
-fn at_node(n: usize, l: usize, left: u64) -> Reached
-    ensures { result ≡ reached_at 1 n 0 l left }
-{
-    Reached {
-        how: NODE,
-        word: n as u64,
-        place: 0,
-        level: l,
-        left: left,
-    }
-}
-
-// Address a is looked at, which is thrown at place p.
-pub fn at_thrown(a: usize, p: usize, l: usize, left: u64) -> Reached
-    ensures { result ≡ reached_at 3 a p l left }
-{
-    Reached {
-        how: THROWN,
-        word: a as u64,
-        place: p,
-        level: l,
-        left: left,
-    }
-}
-
-// The value of w is looked at, under l frames.
-pub fn at_value(w: u64, l: usize, left: u64) -> Reached
-    ensures { result ≡ reached_at 2 w 0 l left }
-{
-    Reached {
-        how: VALUE,
-        word: w,
-        place: 0,
-        level: l,
-        left: left,
-    }
+    Reached { focus, level, left }
 }
 
 // A value comes back to frame after frame, as long as leaps take it.
 fn backs(
-    ws: &[u32],
-    lay: Layout,
+    image: &Image,
     heap: &mut [u64],
     room: &mut [u64],
     memo: &[u64],
     depth: usize,
-    v: u64,
+    word: u64,
     from: usize,
     steps: u64,
 ) -> Reached
-    requires { Good ws.now lay × Inv ws.now depth room.old from (Word v) × HeapOk ws.now heap.old (get_or room.old search_word 0) × Memo ws.now memo.now × (from ≤ depth) }
-    ensures { Reaches ws.now depth steps heap.old room.old from (Word v) heap.new room.new result }
+    requires { Inv image.now.words.now depth room.old from (Word word) × HeapOk image.now.words.now heap.old (get_or room.old search_word 0) × Memo image.now.words.now memo.now × (from ≤ depth) }
+    ensures { Reaches image.now.words.now depth steps heap.old room.old from (Word word) heap.new room.new result }
 {
-    let mut w = v;
+    let mut w = word;
     let mut l = from;
     let mut left = steps;
     while l != 0 {
         if left < ENOUGH {
-            return at_value(w, l, left);
+            return at(Focus::Value(w), l, left);
         }
-        let r = back_leaps::back_leap(ws, lay, heap, room, memo, depth, l - 1, w);
-        if r.how == NONE {
-            return at_value(w, l, left);
-        }
+        let Some(r) = back_leaps::back_leap(image, heap, room, memo, depth, l - 1, w) else {
+            return at(Focus::Value(w), l, left);
+        };
         left -= r.steps;
-        if r.how != VALUE {
-            return landed(r, left);
-        }
-        w = r.word;
+        let Focus::Value(v) = r.focus else {
+            return at(r.focus, r.level, left);
+        };
+        w = v;
         l = r.level;
     }
-    at_value(w, l, left)
+    at(Focus::Value(w), l, left)
 }
 
-// A thrown address goes out of frame after frame, as long as leaps take it.
+// A thrown address goes out of frame after frame, as long as leaps take it. It is no part of `backs`: a thrown address only reads the heap,
+// and asks for another leap.
 fn unwinds(
-    ws: &[u32],
-    lay: Layout,
+    image: &Image,
     heap: &[u64],
     room: &mut [u64],
     memo: &[u64],
@@ -128,8 +81,8 @@ fn unwinds(
     from: usize,
     steps: u64,
 ) -> Reached
-    requires { Good ws.now lay × Inv ws.now depth room.old from (Thrown address place) × HeapOk ws.now heap.now (get_or room.old search_word 0) × Memo ws.now memo.now }
-    ensures { Reaches ws.now depth steps heap.now room.old from (Thrown address place) heap.now room.new result }
+    requires { Inv image.now.words.now depth room.old from (Thrown address place) × HeapOk image.now.words.now heap.now (get_or room.old search_word 0) × Memo image.now.words.now memo.now }
+    ensures { Reaches image.now.words.now depth steps heap.now room.old from (Thrown address place) heap.now room.new result }
 {
     let mut a = address;
     let mut p = place;
@@ -137,27 +90,25 @@ fn unwinds(
     let mut left = steps;
     while l != 0 {
         if left < ENOUGH {
-            return at_thrown(a, p, l, left);
+            return at(Focus::Thrown(a, p), l, left);
         }
-        let r = back_leaps::unwind_leap(ws, lay, heap, room, memo, depth, l - 1, a, p);
-        if r.how == NONE {
-            return at_thrown(a, p, l, left);
-        }
+        let Some(r) = back_leaps::unwind_leap(image, heap, room, memo, depth, l - 1, a, p) else {
+            return at(Focus::Thrown(a, p), l, left);
+        };
         left -= r.steps;
-        if r.how != THROWN {
-            return landed(r, left);
-        }
-        a = r.word as usize;
-        p = r.place;
+        let Focus::Thrown(b, q) = r.focus else {
+            return at(r.focus, r.level, left);
+        };
+        a = b;
+        p = q;
         l = r.level;
     }
-    at_thrown(a, p, l, left)
+    at(Focus::Thrown(a, p), l, left)
 }
 
 // Where a leap has come to, a value comes back.
 fn returned(
-    ws: &[u32],
-    lay: Layout,
+    image: &Image,
     heap: &mut [u64],
     room: &mut [u64],
     memo: &[u64],
@@ -165,19 +116,18 @@ fn returned(
     e: Leap,
     left: u64,
 ) -> Reached
-    requires { Good ws.now lay × Inv ws.now depth room.old e.level (focus_at e.how e.word e.place) × HeapOk ws.now heap.old (get_or room.old search_word 0) × Memo ws.now memo.now × (e.how ≡ 2 → e.level ≤ depth) }
-    ensures { Reaches ws.now depth left heap.old room.old e.level (focus_at e.how e.word e.place) heap.new room.new result }
+    requires { Inv image.now.words.now depth room.old e.level e.focus × HeapOk image.now.words.now heap.old (get_or room.old search_word 0) × Memo image.now.words.now memo.now × Low depth e.focus e.level }
+    ensures { Reaches image.now.words.now depth left heap.old room.old e.level e.focus heap.new room.new result }
 {
-    if e.how == VALUE {
-        return backs(ws, lay, heap, room, memo, depth, e.word, e.level, left);
+    match e.focus {
+        Focus::Value(w) => backs(image, heap, room, memo, depth, w, e.level, left),
+        _ => at(e.focus, e.level, left),
     }
-    landed(e, left)
 }
 
 // Then a thrown address goes out.
 fn outward(
-    ws: &[u32],
-    lay: Layout,
+    image: &Image,
     heap: &mut [u64],
     room: &mut [u64],
     memo: &[u64],
@@ -185,33 +135,19 @@ fn outward(
     e: Leap,
     left: u64,
 ) -> Reached
-    requires { Good ws.now lay × Inv ws.now depth room.old e.level (focus_at e.how e.word e.place) × HeapOk ws.now heap.old (get_or room.old search_word 0) × Memo ws.now memo.now × (e.how ≡ 2 → e.level ≤ depth) }
-    ensures { Reaches ws.now depth left heap.old room.old e.level (focus_at e.how e.word e.place) heap.new room.new result }
+    requires { Inv image.now.words.now depth room.old e.level e.focus × HeapOk image.now.words.now heap.old (get_or room.old search_word 0) × Memo image.now.words.now memo.now × Low depth e.focus e.level }
+    ensures { Reaches image.now.words.now depth left heap.old room.old e.level e.focus heap.new room.new result }
 {
-    let r = returned(ws, lay, heap, room, memo, depth, e, left);
-    if r.how != THROWN {
-        return r;
+    let r = returned(image, heap, room, memo, depth, e, left);
+    match r.focus {
+        Focus::Thrown(a, p) => unwinds(image, heap, room, memo, depth, a, p, r.level, r.left),
+        _ => r,
     }
-    unwinds(
-        ws,
-        lay,
-        heap,
-        room,
-        memo,
-        depth,
-        r.word as usize,
-        r.place,
-        r.level,
-        r.left,
-    )
 }
 
 // Leaps from a node on, as long as there are any.
 pub fn strides(
-    ws: &[u32],
-    lay: Layout,
-    counts: &[usize],
-    types: &[u32],
+    table: &Table,
     heap: &mut [u64],
     room: &mut [u64],
     memo: &[u64],
@@ -220,40 +156,28 @@ pub fn strides(
     from: usize,
     steps: u64,
 ) -> Reached
-    requires { Good ws.now lay × Rows ws.now counts.now types.now × Inv ws.now depth room.old from (Node node) × HeapOk ws.now heap.old (get_or room.old search_word 0) × Memo ws.now memo.now }
-    ensures { Reaches ws.now depth steps heap.old room.old from (Node node) heap.new room.new result }
+    requires { Inv table.now.image.words.now depth room.old from (Node node) × HeapOk table.now.image.words.now heap.old (get_or room.old search_word 0) × Memo table.now.image.words.now memo.now }
+    ensures { Reaches table.now.image.words.now depth steps heap.old room.old from (Node node) heap.new room.new result }
 {
+    // A copy on the stack: what is lent may be read again for each leap.
+    let here = *table;
     let mut n = node;
     let mut l = from;
     let mut left = steps;
     while l + 3 <= depth {
         if left < ENOUGH {
-            return at_node(n, l, left);
+            return at(Focus::Node(n), l, left);
         }
-        let e = enter_leaps::enter_leap(ws, lay, counts, types, heap, room, memo, depth, n, l);
-        if e.how == NONE {
-            return at_node(n, l, left);
-        }
-        let r = outward(ws, lay, heap, room, memo, depth, e, left - e.steps);
-        if r.how != NODE {
+        let Some(e) = enter_leaps::enter_leap(&here, heap, room, memo, depth, n, l) else {
+            return at(Focus::Node(n), l, left);
+        };
+        let r = outward(&here.image, heap, room, memo, depth, e, left - e.steps);
+        let Focus::Node(m) = r.focus else {
             return r;
-        }
-        n = r.word as usize;
+        };
+        n = m;
         l = r.level;
         left = r.left;
     }
-    at_node(n, l, left)
-}
-
-// What is looked at there.
-pub fn focus_of(r: Reached) -> Focus
-    ensures { result ≡ focus_at r.how r.word r.place }
-{
-    if r.how == NODE {
-        return Focus::Node(r.word as usize);
-    }
-    if r.how == VALUE {
-        return Focus::Value(r.word);
-    }
-    Focus::Thrown(r.word as usize, r.place)
+    at(Focus::Node(n), l, left)
 }

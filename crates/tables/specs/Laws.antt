@@ -1,18 +1,7 @@
--- Laws: the places of each rule, and what a record that is not the first is compared with.
+-- Laws: what a record that is not the first is compared with.
 use Rattle.std.specs.Prelude.{◌≡◌, refl, List, ℕ, zero, suc, ◌-◌, ◌<◌}
 use Rattle.std.proofs.Common.{arith}
 use Rattle.image.specs.Records.{field_word, method_word, rises, field_rises, method_rises}
-use Rattle.image.specs.Layout.{class_rule, field_rule, method_rule, type_rule}
-use Rattle.tables.specs.declared.Table.{Table}
-use Rattle.tables.specs.declared.Table.TheVariants.{Classes, Fields, Methods, Types}
-use Rattle.tables.specs.Tables.{rule_of, places_of}
-
-pub places_of_lem : (t : Table) (ws : List ℕ) → places_of t ws ≡ (rule_of t ws).places
-unfolding class_rule field_rule method_rule type_rule
-places_of_lem Classes ws = refl
-places_of_lem Fields ws = refl
-places_of_lem Methods ws = refl
-places_of_lem Types ws = refl
 
 -- the number of the record before is in range too
 pub below : {i n : ℕ} → i < n → i - 1 < n

@@ -1,160 +1,129 @@
 // The tables of an image: class, field and method records and type words, numbers 4 to 7 of the layout.
-// Each test computes the definition of image's Records that has its name. One loop, for all four, looks for the first place
-// where the test fails. Tests are joined by `&` and `|`, which ask both sides: each test is safe by itself.
+// Each test computes the definition of image's Records that has its name.
 #![tactic(auto)]
 
 ghost use Rattle.std.specs.Prelude.{◌≡◌, ◌<◌};
 ghost use Rattle.order.specs.Rules.{first_place};
 ghost use Rattle.image.specs.Records.{class_holds, rises, field_rises, field_holds, method_rises, method_holds, type_holds};
-ghost use Rattle.image.specs.Layout.{Lay, Small, class_rule, field_rule, method_rule, type_rule};
-ghost use Rattle.tables.specs.Tables.{rule_of, places_of};
+ghost use Rattle.image.specs.Layout.{class_rule, field_rule, method_rule, type_rule};
 
-use image::{FIRST_USER_CLASS, Layout};
-use order::Found;
+use image::{FIRST_USER_CLASS, Sections};
 
 // 4: a class record; at the class count, that there are enough classes.
-fn class_holds(ws: &[u32], l: Layout, c: usize) -> bool
-    requires { Lay ws.now l }
-    ensures { result ≡ class_holds ws.now c }
+#[tactic(auto, unfolding(image::specs::Records::class_holds))]
+fn class_holds(sections: &Sections, c: usize) -> bool
+    ensures { result ≡ class_holds sections.now.words.now c }
 {
-    if c < l.class_count {
-        records::super_holds(c, image::class_word(ws, l, c))
+    if c < sections.layout.class_count {
+        records::super_holds(c, sections.class_word(c))
     } else {
-        FIRST_USER_CLASS <= l.class_count
+        FIRST_USER_CLASS <= sections.layout.class_count
     }
 }
 
-// Field i comes after the one before it, if there is one.
-fn field_rises(ws: &[u32], l: Layout, i: usize) -> bool
-    requires { Lay ws.now l × (i < l.field_count) }
-    ensures { result ≡ field_rises ws.now i }
+// Field i comes after the one before it, if there is one. `method_rises` is the same of methods, but the definitions are two: a test of
+// both would take a closure that reads a record, with a contract longer than what they share.
+#[tactic(auto, using(crate::specs::Laws::field_after), unfolding(image::specs::Records::field_rises))]
+fn field_rises(sections: &Sections, i: usize) -> bool
+    requires { i < sections.now.layout.field_count }
+    ensures { result ≡ field_rises sections.now.words.now i }
 {
     if i == 0 {
         return true;
     }
     let before = i - 1;
-    let c = image::field_word(ws, l, before, 0);
-    let n = image::field_word(ws, l, before, 1);
-    let d = image::field_word(ws, l, i, 0);
-    let m = image::field_word(ws, l, i, 1);
+    let c = sections.field_word(before, 0);
+    let n = sections.field_word(before, 1);
+    let d = sections.field_word(i, 0);
+    let m = sections.field_word(i, 1);
     records::rises(c, n, d, m)
 }
 
 // 5: a field record.
-fn field_holds(ws: &[u32], l: Layout, i: usize) -> bool
-    requires { Lay ws.now l × Small l × (i < l.field_count) }
-    ensures { result ≡ field_holds ws.now i }
+#[tactic(auto, unfolding(image::specs::Records::field_holds))]
+fn field_holds(sections: &Sections, i: usize) -> bool
+    requires { i < sections.now.layout.field_count }
+    ensures { result ≡ field_holds sections.now.words.now i }
 {
-    let c = image::field_word(ws, l, i, 0);
-    let n = image::field_word(ws, l, i, 1);
-    let t = image::field_word(ws, l, i, 2);
-    records::member_holds(l.class_count, c, n, t) & field_rises(ws, l, i)
+    let c = sections.field_word(i, 0);
+    let n = sections.field_word(i, 1);
+    let t = sections.field_word(i, 2);
+    records::member_holds(sections.layout.class_count, c, n, t) & field_rises(sections, i)
 }
 
 // Method i comes after the one before it, if there is one.
-fn method_rises(ws: &[u32], l: Layout, i: usize) -> bool
-    requires { Lay ws.now l × (i < l.method_count) }
-    ensures { result ≡ method_rises ws.now i }
+#[tactic(auto, using(crate::specs::Laws::method_after), unfolding(image::specs::Records::method_rises))]
+fn method_rises(sections: &Sections, i: usize) -> bool
+    requires { i < sections.now.layout.method_count }
+    ensures { result ≡ method_rises sections.now.words.now i }
 {
     if i == 0 {
         return true;
     }
     let before = i - 1;
-    let c = image::method_word(ws, l, before, 0);
-    let n = image::method_word(ws, l, before, 1);
-    let d = image::method_word(ws, l, i, 0);
-    let m = image::method_word(ws, l, i, 1);
+    let c = sections.method_word(before, 0);
+    let n = sections.method_word(before, 1);
+    let d = sections.method_word(i, 0);
+    let m = sections.method_word(i, 1);
     records::rises(c, n, d, m)
 }
 
 // 6: a method record.
-fn method_holds(ws: &[u32], l: Layout, i: usize) -> bool
-    requires { Lay ws.now l × Small l × (i < l.method_count) }
-    ensures { result ≡ method_holds ws.now i }
+#[tactic(auto, unfolding(image::specs::Records::method_holds))]
+fn method_holds(sections: &Sections, i: usize) -> bool
+    requires { i < sections.now.layout.method_count }
+    ensures { result ≡ method_holds sections.now.words.now i }
 {
-    let c = image::method_word(ws, l, i, 0);
-    let n = image::method_word(ws, l, i, 1);
-    let t = image::method_word(ws, l, i, 2);
-    let first = image::method_word(ws, l, i, 3);
-    let count = image::method_word(ws, l, i, 4);
-    records::member_holds(l.class_count, c, n, t)
-        & records::arguments_hold(l.type_count, first, count)
-        & method_rises(ws, l, i)
+    let c = sections.method_word(i, 0);
+    let n = sections.method_word(i, 1);
+    let t = sections.method_word(i, 2);
+    let first = sections.method_word(i, 3);
+    let count = sections.method_word(i, 4);
+    records::member_holds(sections.layout.class_count, c, n, t)
+        & records::arguments_hold(sections.layout.type_count, first, count)
+        & method_rises(sections, i)
 }
 
 // 7: a type word is a declared type.
-fn type_holds(ws: &[u32], l: Layout, i: usize) -> bool
-    requires { Lay ws.now l × Small l × (i < l.type_count) }
-    ensures { result ≡ type_holds ws.now i }
+#[tactic(auto, unfolding(image::specs::Records::type_holds))]
+fn type_holds(sections: &Sections, i: usize) -> bool
+    requires { i < sections.now.layout.type_count }
+    ensures { result ≡ type_holds sections.now.words.now i }
 {
-    words::is_declared(image::type_word(ws, l, i), l.class_count as u32)
-}
-
-// The tables that are looked through alike.
-#[derive(Clone, Copy)]
-enum Table {
-    Classes,
-    Fields,
-    Methods,
-    Types,
-}
-
-// Whether a table's rule holds at a place.
-fn holds(ws: &[u32], l: Layout, t: Table, i: usize) -> bool
-    requires { Lay ws.now l × Small l × (i < places_of t ws.now) }
-    ensures { result ≡ (rule_of t ws.now).holds i }
-{
-    match t {
-        Table::Classes => class_holds(ws, l, i),
-        Table::Fields => field_holds(ws, l, i),
-        Table::Methods => method_holds(ws, l, i),
-        Table::Types => type_holds(ws, l, i),
-    }
-}
-
-// The lowest of n places at which a table's rule is broken.
-fn first_place(ws: &[u32], l: Layout, t: Table, n: usize) -> Found
-    requires { Lay ws.now l × Small l × (n ≡ places_of t ws.now) }
-    ensures { result ≡ first_place (rule_of t ws.now) }
-{
-    let mut i = 0;
-    while i < n {
-        if !holds(ws, l, t, i) {
-            return Found::At(i);
-        }
-        i += 1;
-    }
-    Found::Nowhere
+    words::is_declared(sections.type_word(i), sections.layout.class_count as u32)
 }
 
 // The first broken class record, or the class count where there are too few.
-pub fn class_place(ws: &[u32], l: Layout) -> Found
-    requires { Lay ws.now l × Small l }
-    ensures { result ≡ first_place (class_rule ws.now) }
+#[tactic(auto, unfolding(order::specs::Rules::first_place, image::specs::Layout::class_rule))]
+pub fn class_place(sections: &Sections) -> Option<usize>
+    ensures { result ≡ first_place (class_rule sections.now.words.now) }
 {
-    first_place(ws, l, Table::Classes, l.class_count + 1)
+    order::first_broken(
+        sections.layout.class_count + 1,
+        |c| class_holds(sections, c),
+    )
 }
 
 // The first broken field record.
-pub fn field_place(ws: &[u32], l: Layout) -> Found
-    requires { Lay ws.now l × Small l }
-    ensures { result ≡ first_place (field_rule ws.now) }
+#[tactic(auto, unfolding(order::specs::Rules::first_place, image::specs::Layout::field_rule))]
+pub fn field_place(sections: &Sections) -> Option<usize>
+    ensures { result ≡ first_place (field_rule sections.now.words.now) }
 {
-    first_place(ws, l, Table::Fields, l.field_count)
+    order::first_broken(sections.layout.field_count, |i| field_holds(sections, i))
 }
 
 // The first broken method record.
-pub fn method_place(ws: &[u32], l: Layout) -> Found
-    requires { Lay ws.now l × Small l }
-    ensures { result ≡ first_place (method_rule ws.now) }
+#[tactic(auto, unfolding(order::specs::Rules::first_place, image::specs::Layout::method_rule))]
+pub fn method_place(sections: &Sections) -> Option<usize>
+    ensures { result ≡ first_place (method_rule sections.now.words.now) }
 {
-    first_place(ws, l, Table::Methods, l.method_count)
+    order::first_broken(sections.layout.method_count, |i| method_holds(sections, i))
 }
 
 // The first broken type word.
-pub fn type_place(ws: &[u32], l: Layout) -> Found
-    requires { Lay ws.now l × Small l }
-    ensures { result ≡ first_place (type_rule ws.now) }
+#[tactic(auto, unfolding(order::specs::Rules::first_place, image::specs::Layout::type_rule))]
+pub fn type_place(sections: &Sections) -> Option<usize>
+    ensures { result ≡ first_place (type_rule sections.now.words.now) }
 {
-    first_place(ws, l, Table::Types, l.type_count)
+    order::first_broken(sections.layout.type_count, |i| type_holds(sections, i))
 }

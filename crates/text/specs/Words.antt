@@ -1,8 +1,8 @@
 -- Words out of bytes, little end first. Assumes nothing.
-use Rattle.std.specs.Prelude.{ℕ, ◌+◌, ◌*◌, ◌<◌, ◌≤◌, ◌≡◌, List, length, take, get_or}
+use Rattle.std.specs.Prelude.{ℕ, ◌+◌, ◌*◌, ◌<◌, ◌≤◌, ◌≡◌, List, length, take, get_or, Some, slice_get}
 
 -- n counts elements at the start of a list. The second part follows from the first; `&s[..n]` asks both.
-abbrev pub Counts : ℕ → List ℕ → Type 0
+abbrev pub Counts : {A : Type 0} → ℕ → List A → Type 0
 Counts n xs = (n ≤ length xs) × (n ≡ length (take n xs))
 
 -- the number that four bytes are
@@ -22,12 +22,5 @@ unfoldable pub wide_at : List ℕ → ℕ → ℕ
 wide_at bytes k = two_words (word_at bytes (2 * k)) (word_at bytes (2 * k + 1))
 
 -- the first n words are those that a function names
-abbrev pub First : ℕ → (ℕ → ℕ) → List ℕ → Type 0
-First n word words = (k : ℕ) → k < n → get_or words k 0 ≡ word k
-
--- the first n words are those of the bytes, of four or of eight each
-abbrev pub Words : ℕ → List ℕ → List ℕ → Type 0
-Words n bytes words = First n (word_at bytes) words
-
-abbrev pub WideWords : ℕ → List ℕ → List ℕ → Type 0
-WideWords n bytes words = First n (wide_at bytes) words
+abbrev pub First : {A : Type 0} → ℕ → (ℕ → A) → List A → Type 0
+First n word words = (k : ℕ) → k < n → slice_get words k ≡ Some (word k)

@@ -1,66 +1,66 @@
-// What the programs share: words from bytes, decimal numbers from digits, blanks.
+// What the programs share: words from bytes, decimal numbers from digits, blanks, and memory.
 #![tactic(auto)]
 
-ghost use Rattle.std.specs.Prelude.{◌≡◌, ◌+◌, ◌*◌, ◌/◌, ◌≤◌, ◌<◌, min, length};
-ghost use Rattle.text.specs.Words.{Counts, Words, WideWords, four_bytes, two_words, word_at};
+ghost use Rattle.std.specs.Prelude.{◌≡◌, ℕ, List, ◌+◌, ◌*◌, ◌/◌, ◌≤◌, ◌<◌, min, length};
+ghost use Rattle.text.specs.Words.{Counts, First, word_at, wide_at};
 ghost use Rattle.text.specs.Blanks.{is_blank};
 ghost use Rattle.text.specs.Decimal.{fed_of};
+ghost use Rattle.std.proofs.Common.{rules};
 
-fn least(a: usize, b: usize) -> usize
-    ensures { (result ≤ a) × (result ≤ b) × (result ≡ min a b) }
-{
-    if a < b { a } else { b }
+// A word of so many bytes, little end first.
+pub trait Word: Copy {
+    ghost BYTES: { ℕ };
+
+    // word k of a list of bytes
+    ghost word_of: { List ℕ → ℕ → Self };
+
+    const BYTES: usize;
+
+    fn at(bytes: &[u8], k: usize) -> Self
+        requires { BYTES * k + BYTES ≤ length bytes.now }
+        ensures { result ≡ word_of bytes.now k };
+
+    ghost not_empty: { 0 < BYTES };
 }
 
-// A word of four bytes, little end first.
-pub fn word32(a: u8, b: u8, c: u8, d: u8) -> u32
-    ensures { result ≡ four_bytes a b c d }
-{
-    (a as u32) + 256 * (b as u32) + 65536 * (c as u32) + 16777216 * (d as u32)
-}
+impl Word for u32 {
+    ghost BYTES = { 4 };
 
-// A word of two words, the low one first.
-pub fn word64(low: u32, high: u32) -> u64
-    ensures { result ≡ two_words low high }
-{
-    (low as u64) + 4294967296 * (high as u64)
-}
+    ghost word_of = { word_at };
 
-// Word k of the bytes.
-fn word_at(bytes: &[u8], k: usize) -> u32
-    requires { 4 * k + 4 ≤ length bytes.now }
-    ensures { result ≡ word_at bytes.now k }
-{
-    let at = 4 * k;
-    word32(bytes[at], bytes[at + 1], bytes[at + 2], bytes[at + 3])
-}
+    const BYTES: usize = 4;
 
-// Puts the whole words of `bytes` at the start of `out`, as many as it has room for: how many that is.
-pub fn words32(bytes: &[u8], out: &mut [u32]) -> usize
-    ensures count { Counts result out.new }
-    ensures all { result ≡ min (length bytes.now / 4) (length out.old) }
-    ensures words { Words result bytes.now out.new }
-{
-    let n = least(bytes.len() / 4, out.len());
-    let mut k = 0;
-    while k < n {
-        out[k] = word_at(bytes, k);
-        k += 1;
+    fn at(bytes: &[u8], k: usize) -> u32 {
+        u32::from_le_bytes(bytes.as_chunks().0[k])
     }
-    n
+
+    ghost not_empty = { Prim.search rules };
 }
 
-// The same with words of eight bytes.
-pub fn words64(bytes: &[u8], out: &mut [u64]) -> usize
+impl Word for u64 {
+    ghost BYTES = { 8 };
+
+    ghost word_of = { wide_at };
+
+    const BYTES: usize = 8;
+
+    fn at(bytes: &[u8], k: usize) -> u64 {
+        u64::from_le_bytes(bytes.as_chunks().0[k])
+    }
+
+    ghost not_empty = { Prim.search rules };
+}
+
+// Puts the whole words of `bytes` at the start of `out`, as many as it has room for: how many that is. The memory is
+// lent, since nothing is taken from a heap.
+pub fn words<W: Word>(bytes: &[u8], out: &mut [W]) -> usize
     ensures count { Counts result out.new }
-    ensures all { result ≡ min (length bytes.now / 8) (length out.old) }
-    ensures words { WideWords result bytes.now out.new }
+    ensures all { result ≡ min (length bytes.now / W.BYTES) (length out.old) }
+    ensures words { First result (W.word_of bytes.now) out.new }
 {
-    let n = least(bytes.len() / 8, out.len());
-    let mut k = 0;
-    while k < n {
-        out[k] = word64(word_at(bytes, 2 * k), word_at(bytes, 2 * k + 1));
-        k += 1;
+    let n = (bytes.len() / W::BYTES).min(out.len());
+    for k in 0..n {
+        out[k] = W::at(bytes, k);
     }
     n
 }
@@ -72,33 +72,27 @@ pub fn is_blank(b: u8) -> bool
     (b == 32) | (b == 9) | (b == 13)
 }
 
-// What a byte makes of the decimal number before it.
-#[derive(Clone, Copy)]
-pub enum Fed {
-    Number(u64),
+// Why a byte adds no digit to the decimal number before it.
+#[derive(Clone, Copy, PartialEq, Eq)]
+pub enum NotFed {
     NoDigit,
     TooLarge,
 }
 
-// The largest number that has a tenfold of 64 bits.
-const MOST_TENS: u64 = 1844674407370955161;
-
 // The number n with one digit more, where the byte is a digit and the number is one of 64 bits.
-pub fn feed(n: u64, b: u8) -> Fed
+pub fn feed(n: u64, b: u8) -> Result<u64, NotFed>
     ensures { result ≡ fed_of n b }
 {
-    if b < 48 {
-        return Fed::NoDigit;
+    if !b.is_ascii_digit() {
+        return Err(NotFed::NoDigit);
     }
-    if 57 < b {
-        return Fed::NoDigit;
-    }
-    if MOST_TENS < n {
-        return Fed::TooLarge;
-    }
-    let d = (b - 48) as u64;
-    if u64::MAX - d < 10 * n {
-        return Fed::TooLarge;
-    }
-    Fed::Number(10 * n + d)
+    let tens = n.checked_mul(10).ok_or(NotFed::TooLarge)?;
+    tens.checked_add((b - 48) as u64).ok_or(NotFed::TooLarge)
+}
+
+// Memory for so many elements. The contract spares the prover to count the zeros.
+pub fn zeros<T: Copy + Default, const N: usize>() -> [T; N]
+    ensures { N ≡ length result }
+{
+    [T::default(); N]
 }

@@ -3,7 +3,7 @@ use Rattle.std.specs.Prelude.{◌≡◌, refl, Bool, true, ◌&&◌, List, ℕ, 
 use Rattle.std.proofs.Common.{◌∙◌, arith, leb-true, eqb-true}
 use Rattle.order.specs.Rules.{first_place}
 use Rattle.order.specs.Lowest.{held}
-use Rattle.order.specs.declared.Found.TheVariants.{Nowhere}
+use Rattle.std.specs.declared.option.Option.TheVariants.{None}
 use Rattle.image.specs.declared.Layout.{Layout}
 use Rattle.image.specs.Laws.{and_left, and_right}
 use Rattle.image.specs.Numbers.{trailer_words}
@@ -46,11 +46,11 @@ last types nodes h = (
 )
 
 -- a rule of few tests that is broken nowhere: each test
-pub passed : (n : ℕ) (tests : List Bool) → first_place (tested n tests) ≡ Nowhere → (p : ℕ) → p < length tests → get_or tests p true ≡ true
+pub passed : (n : ℕ) (tests : List Bool) → first_place (tested n tests) ≡ None → (p : ℕ) → p < length tests → get_or tests p true ≡ true
 unfolding tested
 passed n tests e p h = held (tested n tests) e p h
 
-pub shape : (ws : List ℕ) → format_holds ws ≡ true → first_place (trailer_rule ws) ≡ Nowhere → Shape ws
+pub shape : (ws : List ℕ) → format_holds ws ≡ true → first_place (trailer_rule ws) ≡ None → Shape ws
 unfolding format_holds trailer_rule trailer_tests input_count type_count
 shape ws f t =
     let at = passed 2 (trailer_tests ws) t in
@@ -72,7 +72,7 @@ shape ws f t =
       inputs = leb-true _ _ (at 6 (omega arith));
     }
 
-pub small : (ws : List ℕ) (l : Layout) → Lay ws l → first_place (ceiling_rule ws) ≡ Nowhere → Small l
+pub small : (ws : List ℕ) (l : Layout) → Lay ws l → first_place (ceiling_rule ws) ≡ None → Small l
 unfolding ceiling_rule ceiling_tests
 small ws l y t =
     let at = passed 3 _ t in

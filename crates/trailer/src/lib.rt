@@ -9,44 +9,35 @@ ghost use Rattle.image.specs.Layout.{trailer_rule, tested, Lay};
 ghost use Rattle.trailer.specs.Shape.{Shape};
 
 use image::Layout;
-use order::Found;
 
 // 1: a trailer, and the format.
+#[tactic(auto, unfolding(image::specs::Trailer::format_holds))]
 pub fn format_holds(ws: &[u32]) -> bool
     ensures { result ≡ format_holds ws.now }
 {
-    if ws.len() < image::TRAILER_WORDS {
-        return false;
-    }
-    image::trailer_word(ws, 7) == image::FORMAT_NUMBER
+    ws.len() >= image::TRAILER_WORDS && image::trailer_word(ws, 7) == image::FORMAT_NUMBER
 }
 
 // A section of records of `size` words, from one distance to the next.
+#[tactic(auto, unfolding(image::specs::Trailer::section_holds))]
 fn section_holds(from: usize, to: usize, size: usize) -> bool
     requires { 0 < size }
     ensures { result ≡ section_holds from to size }
 {
-    if to > from {
-        return false;
-    }
-    if to < image::TRAILER_WORDS {
-        return false;
-    }
-    (from - to) % size == 0
+    to <= from && image::TRAILER_WORDS <= to && (from - to) % size == 0
 }
 
 // The last distance, which ends two sections.
+#[tactic(auto, unfolding(image::specs::Trailer::last_holds))]
 fn last_holds(types: usize, nodes: usize) -> bool
     ensures { result ≡ last_holds types nodes }
 {
-    if !section_holds(types, nodes, 1) {
-        return false;
-    }
-    (nodes - image::TRAILER_WORDS) % 4 == 0
+    section_holds(types, nodes, 1) && (nodes - image::TRAILER_WORDS) % 4 == 0
 }
 
 // 2: the first trailer word that is broken.
-pub fn trailer_place(ws: &[u32]) -> Found
+#[tactic(auto, unfolding(order::specs::Rules::first_place, image::specs::Layout::tested, image::specs::Layout::trailer_rule, image::specs::Trailer::trailer_tests, image::specs::Trailer::input_count, image::specs::Trailer::type_count))]
+pub fn trailer_place(ws: &[u32]) -> Option<usize>
     requires { trailer_words ≤ length ws.now }
     ensures { result ≡ first_place (trailer_rule ws.now) }
 {
@@ -55,54 +46,36 @@ pub fn trailer_place(ws: &[u32]) -> Found
     let methods = image::trailer_word(ws, 2);
     let types = image::trailer_word(ws, 3);
     let nodes = image::trailer_word(ws, 4);
-    let inputs = image::trailer_word(ws, 6);
-    if classes != ws.len() {
-        return Found::At(0);
-    }
-    if !section_holds(classes, fields, 1) {
-        return Found::At(1);
-    }
-    if !section_holds(fields, methods, 3) {
-        return Found::At(2);
-    }
-    if !section_holds(methods, types, 6) {
-        return Found::At(3);
-    }
-    if !last_holds(types, nodes) {
-        return Found::At(4);
-    }
-    if inputs > types - nodes {
-        return Found::At(6);
-    }
-    Found::Nowhere
+    let tests = [
+        classes == ws.len(),
+        section_holds(classes, fields, 1),
+        section_holds(fields, methods, 3),
+        section_holds(methods, types, 6),
+        last_holds(types, nodes),
+        true,
+        image::trailer_word(ws, 6) <= types.saturating_sub(nodes),
+    ];
+    order::first_broken(7, |i| tests[i])
 }
 
 // 3: the trailer word of the first section over its ceiling.
-pub fn ceiling_place(l: Layout) -> Found
+#[tactic(auto, unfolding(order::specs::Rules::first_place, image::specs::Layout::tested, image::specs::Trailer::ceiling_tests))]
+pub fn ceiling_place(l: Layout) -> Option<usize>
     ensures { result
         ≡ first_place
         (tested 3
         (ceiling_tests l.class_count l.field_count l.method_count l.type_count l.node_count l.inputs)) }
 {
-    if l.class_count > image::MOST_CLASSES {
-        return Found::At(0);
-    }
-    if l.field_count > image::MOST_FIELDS {
-        return Found::At(1);
-    }
-    if l.method_count > image::MOST_METHODS {
-        return Found::At(2);
-    }
-    if l.type_count > image::MOST_TYPE_WORDS {
-        return Found::At(3);
-    }
-    if l.node_count > image::MOST_NODES {
-        return Found::At(4);
-    }
-    if l.inputs > image::MOST_INPUTS {
-        return Found::At(6);
-    }
-    Found::Nowhere
+    let tests = [
+        l.class_count <= image::MOST_CLASSES,
+        l.field_count <= image::MOST_FIELDS,
+        l.method_count <= image::MOST_METHODS,
+        l.type_count <= image::MOST_TYPE_WORDS,
+        l.node_count <= image::MOST_NODES,
+        true,
+        l.inputs <= image::MOST_INPUTS,
+    ];
+    order::first_broken(7, |i| tests[i])
 }
 
 // The layout that a trailer without a breach of 1 and 2 describes.

@@ -2,20 +2,17 @@
 #![tactic(auto)]
 
 ghost use Rattle.std.specs.Prelude.{suc, ◌+◌, ◌-◌, get_or};
-ghost use Rattle.image.specs.Layout.{Good};
 ghost use Rattle.rows.specs.Rows.{Sizes, Rows};
 ghost use Rattle.room.specs.declared.Focus.TheVariants.{Node, Value as Word, Thrown};
 ghost use Rattle.room.specs.Room.{search_word};
 ghost use Rattle.room.specs.Turn.{HeapOk, Inv, Turned};
 
-use image::Layout;
-use room::{CALL, FRAME_WORDS, FRAMES, Focus, Go};
+use room::{FRAME_WORDS, FRAMES, Focus, Go, Tag};
+use rows::Table;
 
 // A value comes back to frame i.
 fn value_back(
-    ws: &[u32],
-    lay: Layout,
-    counts: &[usize],
+    table: &Table,
     heap: &mut [u64],
     room: &mut [u64],
     depth: usize,
@@ -23,22 +20,18 @@ fn value_back(
     i: usize,
     w: u64,
 ) -> Go
-    requires { Good ws.now lay × Sizes ws.now counts.now × Inv ws.now depth room.old (suc i) (Word w) × HeapOk ws.now heap.old (get_or room.old search_word 0) }
-    ensures { Turned ws.now depth may heap.old room.old (suc i) (Word w) heap.new room.new result }
+    requires { Inv table.now.image.words.now depth room.old (suc i) (Word w) × HeapOk table.now.image.words.now heap.old (get_or room.old search_word 0) }
+    ensures { Turned table.now.image.words.now depth may heap.old room.old (suc i) (Word w) heap.new room.new result }
 {
-    if room[FRAMES + FRAME_WORDS * i] == CALL {
-        calls::back_call(ws, lay, heap, room, depth, i, w)
-    } else {
-        back::back(ws, lay, counts, heap, room, may, i, w)
+    match Tag::from(room[FRAMES + FRAME_WORDS * i]) {
+        Tag::Call => calls::back_call(&table.image, heap, room, depth, i, w),
+        _ => back::back(table, heap, room, may, i, w),
     }
 }
 
 // One turn.
 pub fn turn(
-    ws: &[u32],
-    lay: Layout,
-    counts: &[usize],
-    types: &[u32],
+    table: &Table,
     heap: &mut [u64],
     room: &mut [u64],
     depth: usize,
@@ -46,22 +39,22 @@ pub fn turn(
     l: usize,
     f: Focus,
 ) -> Go
-    requires { Good ws.now lay × Rows ws.now counts.now types.now × Inv ws.now depth room.old l f × HeapOk ws.now heap.old (get_or room.old search_word 0) }
-    ensures { Turned ws.now depth may heap.old room.old l f heap.new room.new result }
+    requires { Inv table.now.image.words.now depth room.old l f × HeapOk table.now.image.words.now heap.old (get_or room.old search_word 0) }
+    ensures { Turned table.now.image.words.now depth may heap.old room.old l f heap.new room.new result }
 {
     match f {
-        Focus::Node(n) => enter::enter(ws, lay, counts, types, heap, room, depth, may, n, l),
+        Focus::Node(n) => enter::enter(table, heap, room, depth, may, n, l),
         Focus::Value(w) => {
             if l == 0 {
                 return Go::Over;
             }
-            value_back(ws, lay, counts, heap, room, depth, may, l - 1, w)
+            value_back(table, heap, room, depth, may, l - 1, w)
         },
         Focus::Thrown(a, q) => {
             if l == 0 {
                 return Go::Over;
             }
-            unwind::unwind(ws, lay, heap, room, depth, l - 1, a, q)
+            unwind::unwind(&table.image, heap, room, depth, l - 1, a, q)
         },
     }
 }

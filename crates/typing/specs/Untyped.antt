@@ -5,9 +5,11 @@ use Rattle.std.proofs.Common.{◌∙◌, add-one}
 use Rattle.std.proofs.Math.Option.{none, some}
 use native.Mathlib.Omega.{arith}
 use Rattle.std.proofs.Math.ListN.{length, length-map}
-use Rattle.order.specs.declared.Found.TheVariants.{At, Nowhere}
+use Rattle.std.specs.declared.option.Option.TheVariants.{Some, None}
 use Rattle.order.specs.Rules.{first_place}
 use Rattle.words.specs.declared.Ty.{Ty}
+use Rattle.words.specs.declared.Ty.TheVariants.{Class}
+use Rattle.std.specs.declared.option.Option.{Option as Maybe}
 use Rattle.words.specs.Types.{type_of}
 use Rattle.image.specs.declared.Kind.{Kind}
 use Rattle.image.specs.declared.Kind.TheVariants.{New, Cast, Value as Literal, Var, Add, Eq, Assign, Get, Set, Call, Block, Seq, If, While, Throw, Try, Unknown}
@@ -30,24 +32,25 @@ use Rattle.laws.specs.Postorder.{body_holds_lem, method_filled, main_filled, bod
 use Rattle.figures.specs.FirstBreach.{AllHold, bounded}
 use Rattle.figures.proofs.FirstBreach.{sites_length, body_exactly, body_first}
 use Rattle.figures.proofs.Laid.{written_tree}
-use Rattle.node_rules.specs.declared.Typed.{Typed}
-use Rattle.node_rules.specs.declared.Typed.TheVariants.{Is, Not}
-use Rattle.node_rules.specs.Env.{entry, env_of, type_words, EnvOk, res_ty, decided, within, method_typing, main_typing}
-use Rattle.node_rules.specs.EnvLaws.{env_set, ok_set, class_word, declared_below}
-use Rattle.node_types.specs.ListLaws.{zero_at}
+use Rattle.std.specs.declared.result.Result.{Result}
+use Rattle.std.specs.declared.result.Result.TheVariants.{Ok, Err}
+use Rattle.std.specs.Result.{result_err}
+use Rattle.node_rules.specs.Env.{entry, env_of, Has, EnvOk, res_ty, within, method_typing, main_typing}
+use Rattle.node_rules.specs.EnvLaws.{env_set, ok_set, declared_had}
+use Rattle.node_types.specs.ListLaws.{same_at}
 use Rattle.figures.specs.Bodies.{Bodies}
 use Rattle.figures.proofs.Bodies.{told, body_told, main_told, none_told}
 
 -- WHAT BODIES START WITH
-pub type_declared : (ws : List ℕ) (i : ℕ) → type_holds ws i ≡ true → type_at ws i < type_words ws
+pub type_declared : (ws : List ℕ) (i : ℕ) → type_holds ws i ≡ true → Has ws (type_of (type_at ws i))
 unfolding type_holds
-type_declared ws i h = declared_below (type_at ws i) (class_count ws) h
+type_declared ws i h = declared_had (type_at ws i) (class_count ws) h
 
-pub zeros_ok : (ws : List ℕ) → EnvOk ws (replicate 64 0)
-zeros_ok ws = record { size = refl; types = λ x. omega (arith, zero_at 64 x) }
+pub untyped_ok : (ws : List ℕ) → EnvOk ws (replicate 64 None)
+untyped_ok ws = record { size = refl; types = λ x. rw (same_at {A = Maybe Ty} None 64 x) tt }
 
 -- the types from j on are bound: what is left to bind stands before them
-pub record Declaring (ws : List ℕ) (first count : ℕ) (env : List ℕ) (j : ℕ) : Type 0 where
+pub record Declaring (ws : List ℕ) (first count : ℕ) (env : List (Maybe Ty)) (j : ℕ) : Type 0 where
   pub within : j ≤ count
   pub ok : EnvOk ws env
   pub types : env_of env ≡ from (suc j) (types_from ws (first + j) (count - j))
@@ -71,7 +74,7 @@ unfolding from
 opened i t ts = refl
 
 module _ (ws : List ℕ) (first count : ℕ) where
-  pub declare_start : (env : List ℕ) → EnvOk ws env → ((x : ℕ) → get_or env x 0 ≡ 0) → Declaring ws first count env count
+  pub declare_start : (env : List (Maybe Ty)) → EnvOk ws env → ((x : ℕ) → get_or env x None ≡ None) → Declaring ws first count env count
   unfolding env_of entry from
   declare_start env e z =
       let q : count - count ≡ 0 = omega arith in
@@ -81,37 +84,34 @@ module _ (ws : List ℕ) (first count : ℕ) where
         types = rw (types_none ws (first + count) (count - count) q) (fun_ext (λ x. ap entry (z x)));
       }
 
-  pub declare_on : (env : List ℕ) (j w : ℕ) → Declaring ws first count env j → 0 < j → count < variables → w ≡ type_at ws (first + (j - 1)) → w < type_words ws
-      → Declaring ws first count (set env (j - 1 + 1) (w + 1)) (j - 1)
-  declare_on env zero w d h l e k = absurd (omega arith)
-  declare_on env (suc i) w d h l e k =
+  pub declare_on : (env : List (Maybe Ty)) (j : ℕ) (t : Ty) → Declaring ws first count env j → 0 < j → count < variables → t ≡ type_of (type_at ws (first + (j - 1))) → Has ws t
+      → Declaring ws first count (set env (j - 1 + 1) (Some t)) (j - 1)
+  declare_on env zero t d h l e k = absurd (omega arith)
+  declare_on env (suc i) t d h l e k =
       let a : suc i - 1 ≡ i = omega arith in
       let b : count - i ≡ suc (count - suc i) = omega (arith, d.within) in
       let c : suc (first + i) ≡ first + suc i = omega arith in
-      let v : w ≡ type_at ws (first + i) = rw a at e in
-      rw (a, add-one i, add-one w)
+      let v : t ≡ type_of (type_at ws (first + i)) = rw a at e in
+      rw (a, add-one i)
       (record {
         within = omega (arith, d.within);
-        ok = ok_set ws env (suc i) (suc w) d.ok (omega arith);
-        types = env_set env (suc i) w (omega (arith, d.ok.size, d.within)) ∙ rw (b, types_cons ws (first + i) (count - suc i), c, v, d.types) (opened i (type_of (type_at ws (first + i))) (types_from ws (first + suc i) (count - suc i)));
+        ok = ok_set ws env (suc i) (Some t) d.ok k;
+        types = env_set env (suc i) t (omega (arith, d.ok.size, d.within)) ∙ rw (b, types_cons ws (first + i) (count - suc i), c, v, d.types) (opened i (type_of (type_at ws (first + i))) (types_from ws (first + suc i) (count - suc i)));
       })
 
-  pub declare_end : (env : List ℕ) (j : ℕ) → Declaring ws first count env j → j ≡ 0 → env_of env ≡ from 1 (types_from ws first count)
+  pub declare_end : (env : List (Maybe Ty)) (j : ℕ) → Declaring ws first count env j → j ≡ 0 → env_of env ≡ from 1 (types_from ws first count)
   declare_end env j d h =
       let a : first + 0 ≡ first = omega arith in
       let b : count - 0 ≡ count = omega arith in
       rw (h, a, b) at d.types
 
 -- a method's environment, and main's
-pub method_env_lem : (ws env : List ℕ) (i : ℕ) → length env ≡ variables → env_of env ≡ from 1 (types_from ws (method_word ws i 3) (method_word ws i 4))
-    → env_of (set env 0 (5 + method_word ws i 0)) ≡ method_env (method_at ws i)
+pub method_env_lem : (ws : List ℕ) (env : List (Maybe Ty)) (i : ℕ) → length env ≡ variables → env_of env ≡ from 1 (types_from ws (method_word ws i 3) (method_word ws i 4))
+    → env_of (set env 0 (Some (Class (method_word ws i 0)))) ≡ method_env (method_at ws i)
 unfolding method_env method_at from
-method_env_lem ws env i l h =
-    let c = method_word ws i 0 in
-    let e : 5 + c ≡ suc (4 + c) = omega arith in
-    rw e (env_set env 0 (4 + c) (omega arith) ∙ rw (h, class_word c))
+method_env_lem ws env i l h = env_set env 0 (Class (method_word ws i 0)) (omega arith) ∙ rw h
 
-pub main_env_lem : (ws env : List ℕ) → env_of env ≡ from 1 (types_from ws (type_count ws - input_count ws) (input_count ws)) → env_of env ≡ main_env ws
+pub main_env_lem : (ws : List ℕ) (env : List (Maybe Ty)) → env_of env ≡ from 1 (types_from ws (type_count ws - input_count ws) (input_count ws)) → env_of env ≡ main_env ws
 unfolding main_env input_types
 main_env_lem ws env h = h
 
@@ -143,24 +143,25 @@ place_tree ws n h =
     ∙ place_node (kind_of (node_word ws n 0)) n (node_word ws n 2) (node_word ws n 3) (λ j. tree ws (operand ws n j)) (known ws n h)
 
 -- A BODY'S RESULT
-pub within_bad : (P : Program) (n u p : ℕ) → bad p ≡ within P n u (bad p)
+pub within_bad : (P : Program) (n : ℕ) (u : Ty) (p : ℕ) → bad p ≡ within P n u (bad p)
 unfolding within bounded ◌>>=◌
 within_bad P n u p = refl
 
-pub within_ok : (P : Program) (n u t : ℕ) → res_ty (decided (subtype P (type_of t) (type_of u)) n t) ≡ within P n u (ok (type_of t))
-unfolding within bounded ◌>>=◌ need decided
-within_ok P n u t = go (subtype P (type_of t) (type_of u))
-  where
-    go : (b : Bool) → res_ty (decided b n t) ≡ need b n (type_of t)
-    go true = refl
-    go false = refl
+module _ (P : Program) (n : ℕ) (u t : Ty) where
+  pub within_yes : subtype P t u ≡ true → ok t ≡ within P n u (ok t)
+  unfolding within bounded ◌>>=◌ need
+  within_yes h = rw h
 
-pub method_typing_lem : (ws env : List ℕ) (i : ℕ) → node_holds ws (method_word ws i 5) ≡ true → env_of env ≡ method_env (method_at ws i)
-    → within (program ws) (method_word ws i 5) (method_word ws i 2) (typing (program ws) (tree ws (method_word ws i 5)) (env_of env)) ≡ method_typing ws i
+  pub within_no : subtype P t u ≡ false → bad n ≡ within P n u (ok t)
+  unfolding within bounded ◌>>=◌ need
+  within_no h = rw h
+
+pub method_typing_lem : (ws : List ℕ) (env : List (Maybe Ty)) (i : ℕ) → node_holds ws (method_word ws i 5) ≡ true → env_of env ≡ method_env (method_at ws i)
+    → within (program ws) (method_word ws i 5) (type_of (method_word ws i 2)) (typing (program ws) (tree ws (method_word ws i 5)) (env_of env)) ≡ method_typing ws i
 unfolding within method_typing method_at
 method_typing_lem ws env i h e = rw (e, place_tree ws (method_word ws i 5) h)
 
-pub main_typing_lem : (ws env : List ℕ) → env_of env ≡ main_env ws → typing (program ws) (tree ws (main_node ws)) (env_of env) ≡ main_typing ws
+pub main_typing_lem : (ws : List ℕ) (env : List (Maybe Ty)) → env_of env ≡ main_env ws → typing (program ws) (tree ws (main_node ws)) (env_of env) ≡ main_typing ws
 unfolding main_typing bounded main
 main_typing_lem ws env e = rw e
 
@@ -234,13 +235,13 @@ module _ (ws : List ℕ) (l : Layout) (g : Good ws l) where
   abbrev pub Held : ℕ → Type 0
   Held i = (j : ℕ) → j < i → AllHold (method_tests ws j)
 
-  pub method_typed : (i : ℕ) (r : Typed) (t : ℕ) → res_ty r ≡ method_typing ws i → r ≡ Is t → AllHold (method_tests ws i)
+  pub method_typed : (i : ℕ) (r : Result Ty ℕ) (t : Ty) → res_ty r ≡ method_typing ws i → r ≡ Ok t → AllHold (method_tests ws i)
   unfolding method_typing method_tests method_sites method_at
   method_typed i r t q e =
       (body_exactly (program ws) (method_at ws i).body (written_tree ws (method_word ws i 5)) (method_env (method_at ws i)) (some (method_at ws i).result)).0
-      (type_of t, sym q ∙ rw e)
+      (t, sym q ∙ rw e)
 
-  pub method_untyped : (i : ℕ) (r : Typed) (p : ℕ) → i < l.method_count → Held i → res_ty r ≡ method_typing ws i → r ≡ Not p → At p ≡ first_place (typing_rule ws)
+  pub method_untyped : (i : ℕ) (r : Result Ty ℕ) (p : ℕ) → i < l.method_count → Held i → res_ty r ≡ method_typing ws i → r ≡ Err p → Some p ≡ first_place (typing_rule ws)
   unfolding typing_rule method_typing method_tests method_sites method_at
   method_untyped i r p w h q e =
       let m = below_count i w in
@@ -248,7 +249,7 @@ module _ (ws : List ℕ) (l : Layout) (g : Good ws l) where
       rw (tests_all ws)
       (body_told starts 12 (main_tests ws) p i m h (told (body_start ws i) (body_start ws (suc i)) _ (places (method_at ws i).body) p (body_places ws hold filled i m) b))
 
-  pub main_untyped : (r : Typed) (p : ℕ) → Held l.method_count → res_ty r ≡ main_typing ws → r ≡ Not p → At p ≡ first_place (typing_rule ws)
+  pub main_untyped : (r : Result Ty ℕ) (p : ℕ) → Held l.method_count → res_ty r ≡ main_typing ws → r ≡ Err p → Some p ≡ first_place (typing_rule ws)
   unfolding typing_rule main_typing main_tests main
   main_untyped r p h q e =
       let b = body_first (program ws) (main ws) (written_tree ws (main_node ws)) (main_env ws) none p (sym q ∙ rw e) in
@@ -256,9 +257,14 @@ module _ (ws : List ℕ) (l : Layout) (g : Good ws l) where
       (main_told starts 12 (main_tests ws) p (rw g.lay.method_count_lem at h)
       (told (body_start ws (method_count ws)) (node_count ws) _ (places (main ws)) p (main_places ws hold filled) b))
 
-  pub none_untyped : (r : Typed) (t : ℕ) → Held l.method_count → res_ty r ≡ main_typing ws → r ≡ Is t → Nowhere ≡ first_place (typing_rule ws)
+  pub none_untyped : (r : Result Ty ℕ) (t : Ty) → Held l.method_count → res_ty r ≡ main_typing ws → r ≡ Ok t → None ≡ first_place (typing_rule ws)
   unfolding typing_rule main_typing main_tests main
   none_untyped r t h q e =
       rw (tests_all ws)
       (none_told (method_tests ws) (method_count ws) 12 (main_tests ws) (rw g.lay.method_count_lem at h)
-      ((body_exactly (program ws) (main ws) (written_tree ws (main_node ws)) (main_env ws) none).0 (type_of t, sym q ∙ rw e)))
+      ((body_exactly (program ws) (main ws) (written_tree ws (main_node ws)) (main_env ws) none).0 (t, sym q ∙ rw e)))
+
+  -- what main's typing says when every method's body is typed
+  pub main_answer : (r : Result Ty ℕ) → Held l.method_count → res_ty r ≡ main_typing ws → result_err r ≡ first_place (typing_rule ws)
+  main_answer (Ok t) h q = none_untyped (Ok t) t h q refl
+  main_answer (Err p) h q = main_untyped (Err p) p h q refl

@@ -1,4 +1,4 @@
-// A set of the 64 variables, by value.
+// A set of the 64 variables, by value. A set of the library's would take memory from a heap.
 #![tactic(auto)]
 
 ghost use Rattle.std.specs.Prelude.{◌≡◌, true, false, ◌<◌};
@@ -15,18 +15,19 @@ pub struct Vars {
 }
 
 impl Vars {
+    // It has the name of its definition, `no_var`, so it is no Default.
+    #[tactic(auto, using(crate::specs::Vars::marks_none))]
     pub fn none() -> Self
         ensures { vars_of result ≡ no_var }
     {
         Vars { on: 0 }
     }
 
+    #[tactic(auto, using(crate::specs::Vars::marks_all))]
     pub fn all() -> Self
         ensures { vars_of result ≡ every_var }
     {
-        Vars {
-            on: 18446744073709551615,
-        }
+        Vars { on: u64::MAX }
     }
 
     pub fn between(from: usize, to: usize) -> Self
@@ -34,14 +35,13 @@ impl Vars {
         ensures { vars_of result ≡ Setting·between from to }
     {
         let mut set = Vars::none();
-        let mut i = from;
-        while i <= to {
+        for i in from..=to {
             set = set.with(i);
-            i += 1;
         }
         set
     }
 
+    #[tactic(auto, unfolding(crate::specs::Vars::marks))]
     pub fn has(self, x: usize) -> bool
         requires { x < variables }
         ensures { result ≡ vars_of self x }
@@ -49,6 +49,7 @@ impl Vars {
         (self.on >> x) % 2 == 1
     }
 
+    #[tactic(auto, using(crate::specs::Vars::marks_with))]
     pub fn with(self, x: usize) -> Self
         requires { x < variables }
         ensures { vars_of result ≡ upd (vars_of self) x true }
@@ -58,13 +59,13 @@ impl Vars {
         }
     }
 
+    #[tactic(auto, using(crate::specs::Vars::marks_without))]
     pub fn without(self, x: usize) -> Self
         requires { x < variables }
         ensures { vars_of result ≡ upd (vars_of self) x false }
     {
-        let digit = 1 << x;
         Vars {
-            on: (self.on | digit) ^ digit,
+            on: self.on & !(1 << x),
         }
     }
 
@@ -76,6 +77,7 @@ impl Vars {
         if b { self.with(x) } else { self.without(x) }
     }
 
+    #[tactic(auto, using(crate::specs::Vars::marks_meet))]
     pub fn meet(self, other: Vars) -> Self
         ensures { vars_of result ≡ Setting·meet (vars_of self) (vars_of other) }
     {

@@ -1,9 +1,9 @@
 -- Value words: a tag above 32 bits of payload, and the values that they stand for.
-use Rattle.std.specs.Prelude.{ℕ, zero, suc, ◌+◌, ◌*◌, ◌/◌, ◌%◌, ◌^◌, ◌<◌, Bool, true, false, ◌==◌, nat_lt}
+use Rattle.std.specs.Prelude.{ℕ, zero, suc, ◌+◌, ◌*◌, ◌/◌, ◌%◌, ◌^◌, ◌<◌, Bool, true, false, ◌==◌, nat_lt, is_some}
 use Rattle.words.specs.declared.Value.{Value}
 use Rattle.words.specs.declared.Value.TheVariants.{Null, Intg, Addr}
-use Rattle.words.specs.declared.Decoded.{Decoded}
-use Rattle.words.specs.declared.Decoded.TheVariants.{Is, Not}
+use Rattle.std.specs.declared.option.Option.{Option}
+use Rattle.std.specs.declared.option.Option.TheVariants.{Some, None}
 
 -- how many addresses there are
 abbrev pub addresses : ℕ
@@ -50,28 +50,23 @@ unfoldable pub payload_of : ℕ → ℕ
 payload_of w = w % 2 ^ 32
 
 -- the value v if a test on the payload is true, and else none
-abbrev pub given : Bool → Value → Decoded
-given true v = Is v
-given false v = Not
+abbrev pub given : Bool → Value → Option Value
+given true v = Some v
+given false v = None
 
 -- the value of a tag and a payload; from tag 5 on there is none
-unfoldable pub value_with : (tag payload : ℕ) → Decoded
+unfoldable pub value_with : (tag payload : ℕ) → Option Value
 value_with zero p = given (p == 0) Value.Unit
 value_with (suc zero) p = given (p == 0) Null
 value_with (suc (suc zero)) p = given (nat_lt p 2) (Value.Bool (p == 1))
 value_with (suc (suc (suc zero))) p = given (nat_lt p (2 ^ 32)) (Intg p)
 value_with (suc (suc (suc (suc zero)))) p = given (nat_lt p addresses) (Addr p)
-value_with (suc (suc (suc (suc (suc t))))) p = Not
+value_with (suc (suc (suc (suc (suc t))))) p = None
 
 -- the value of a word, if it has one
-unfoldable pub value_of : ℕ → Decoded
+unfoldable pub value_of : ℕ → Option Value
 value_of w = value_with (tag_of w) (payload_of w)
-
--- whether there is a value
-abbrev pub is_is : Decoded → Bool
-is_is (Is v) = true
-is_is Not = false
 
 -- whether a tag and a payload are a value
 unfoldable pub is_value : (tag payload : ℕ) → Bool
-is_value tag payload = is_is (value_with tag payload)
+is_value tag payload = is_some (value_with tag payload)

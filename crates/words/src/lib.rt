@@ -12,15 +12,7 @@ pub const TAG: u64 = 4294967296;
 // The heap has this many addresses, so a payload of tag 4 is below it.
 const ADDRESSES: u32 = 4096;
 
-// The words of the types that are no class, and of class 0. Class c's word is FIRST_CLASS + c.
-pub const VOID: u32 = 0;
-
-pub const BOOLEAN: u32 = 1;
-
-pub const INTEGER: u32 = 2;
-
-pub const NULL_TYPE: u32 = 3;
-
+// The word of class 0: the words of the four types that are no class stand before it. Class c's word is FIRST_CLASS + c.
 pub const FIRST_CLASS: u32 = 4;
 
 // A value. An Intg holds its 32 bits, and an Addr its number.
@@ -33,46 +25,43 @@ pub enum Value {
     Addr(u32),
 }
 
-// What a word turns out to be: not every word stands for a value.
-#[derive(Clone, Copy)]
-pub enum Decoded {
-    Is(Value),
-    Not,
-}
-
-// The value that a word stands for.
-pub fn value_of(w: u64) -> Decoded
+// The value that a word stands for. Not every word stands for one.
+// README names this function, `word_of`, `type_of` and `type_word` as answers to questions, so they stay functions. A `TryFrom` would need
+// an error that says no more than None, and no `From` can ask that a class number leaves room.
+#[tactic(auto, using(crate::proofs::ValueLaws::no_tag), unfolding(crate::specs::Value::value_of, crate::specs::Value::value_with, crate::specs::Value::tag_of, crate::specs::Value::payload_of))]
+pub fn value_of(w: u64) -> Option<Value>
     ensures { result ≡ value_of w }
 {
     let tag = w / TAG;
     let payload = (w % TAG) as u32;
     match tag {
         0 => if payload == 0 {
-            Decoded::Is(Value::Unit)
+            Some(Value::Unit)
         } else {
-            Decoded::Not
+            None
         },
         1 => if payload == 0 {
-            Decoded::Is(Value::Null)
+            Some(Value::Null)
         } else {
-            Decoded::Not
+            None
         },
         2 => if payload < 2 {
-            Decoded::Is(Value::Bool(payload == 1))
+            Some(Value::Bool(payload == 1))
         } else {
-            Decoded::Not
+            None
         },
-        3 => Decoded::Is(Value::Intg(payload)),
+        3 => Some(Value::Intg(payload)),
         4 => if payload < ADDRESSES {
-            Decoded::Is(Value::Addr(payload))
+            Some(Value::Addr(payload))
         } else {
-            Decoded::Not
+            None
         },
-        _ => Decoded::Not,
+        _ => None,
     }
 }
 
 // The word that stands for a value.
+#[tactic(auto, unfolding(crate::specs::Value::word_of))]
 pub fn word_of(v: Value) -> u64
     ensures { result ≡ word_of v }
 {
@@ -85,7 +74,8 @@ pub fn word_of(v: Value) -> u64
     }
 }
 
-// Whether a tag and a payload that are stored apart make a value together.
+// Whether a tag and a payload that are stored apart make a value together. `value_of` would join them into a word only to take it apart.
+#[tactic(auto, using(crate::proofs::ValueLaws::no_tag, crate::proofs::ValueLaws::is_given), unfolding(crate::specs::Value::is_value, crate::specs::Value::value_with))]
 pub fn is_value(tag: u32, payload: u32) -> bool
     ensures { result ≡ is_value tag payload }
 {
@@ -100,14 +90,15 @@ pub fn is_value(tag: u32, payload: u32) -> bool
 }
 
 // The bits of a sum of two integers. A sum out of range wraps.
+#[tactic(auto, unfolding(crate::specs::Integer::plus_of))]
 pub fn plus(a: u32, b: u32) -> u32
     ensures { result ≡ plus_of a b }
 {
-    std::num::wrapping_add_u32(a, b)
+    a.wrapping_add(b)
 }
 
 // A type. NT is the type of null, and a Class holds the number of its class.
-#[derive(Clone, Copy)]
+#[derive(Clone, Copy, PartialEq, Eq)]
 pub enum Ty {
     Void,
     Boolean,
@@ -117,6 +108,7 @@ pub enum Ty {
 }
 
 // The type that a word names. Every word names one.
+#[tactic(auto, using(crate::specs::TypeLaws::type_class), unfolding(crate::specs::Types::type_of))]
 pub fn type_of(w: u32) -> Ty
     ensures { result ≡ type_of w }
 {
@@ -130,6 +122,7 @@ pub fn type_of(w: u32) -> Ty
 }
 
 // The word that names a type. A class number must leave room for the four words before it.
+#[tactic(auto, unfolding(crate::specs::Types::type_word))]
 pub fn type_word(t: Ty) -> u32
     requires { Named t }
     ensures { result ≡ type_word t }
@@ -143,7 +136,8 @@ pub fn type_word(t: Ty) -> u32
     }
 }
 
-// Whether a program with that many classes may declare something to be of the type that w names.
+// Whether a program with that many classes may declare something to be of the type that w names. An order of the words is what this rule
+// and the next one say, so both go by words.
 pub fn is_declared(w: u32, classes: u32) -> bool
     requires { classes ≤ 65536 }
     ensures { result ≡ is_declared w classes }
@@ -155,6 +149,7 @@ pub fn is_declared(w: u32, classes: u32) -> bool
 }
 
 // Whether w names a type of a program with that many classes.
+#[tactic(auto, using(crate::specs::TypeLaws::is_type_lem))]
 pub fn is_type(w: u32, classes: u32) -> bool
     requires { classes ≤ 65536 }
     ensures { result ≡ is_type w classes }

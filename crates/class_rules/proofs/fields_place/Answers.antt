@@ -9,35 +9,34 @@ use Rattle.class_rules.proofs.fields_place.Goals as goal
 
 pub loop-c-init : goal.loop-c-init
 loop-c-init c =
-    (omega arith, totals_start _ _ c.requires c.own_counts-counts.ensures, start_one _ _ c.requires)
+    (totals_start _ _ c.args.image.now.good c.own_counts-counts.ensures, start_one _ _ c.args.image.now.good)
 
 pub bounds-counts-s : goal.bounds-counts-s
 bounds-counts-s c =
-    let b = super_below _ _ c.requires c.loop-c.c (omega arith) (omega arith) in omega arith
+    let b = super_below _ _ c.args.image.now.good c.loop-c.c (omega arith) (omega arith) in omega arith
 
 pub bounds-counts-c : goal.bounds-counts-c
 bounds-counts-c c = omega arith
 
 pub overflow_add-total : goal.overflow_add-total
 overflow_add-total c =
-    let i = c.loop-c.invariant in omega (arith, total_small _ _ c.requires i.1 (omega arith) i.0 _ c.class_word-s.ensures)
+    let i = c.loop-c.invariant in omega (arith, total_small _ _ c.args.image.now.good i.0 (omega arith) (omega arith) _ c.class_word-s.ensures)
 
 pub returns-then-total-gt-MOST_FIELDS_ABOVE : goal.returns-then-total-gt-MOST_FIELDS_ABOVE
 unfolding first_place fields_rule
 returns-then-total-gt-MOST_FIELDS_ABOVE c =
     let i = c.loop-c.invariant in
-    let t = total_is _ _ c.requires i.1 (omega arith) i.0 _ c.class_word-s.ensures in
-    hit i.2 (omega arith) (many_fail _ _ c.requires _ (omega arith))
+    let t = total_is _ _ c.args.image.now.good i.0 (omega arith) (omega arith) _ c.class_word-s.ensures in
+    hit i.1 (omega arith) (many_fail _ _ c.args.image.now.good _ (omega arith))
 
 pub loop-c-preserved : goal.loop-c-preserved
 loop-c-preserved c =
     let i = c.loop-c.invariant in
-    let t = total_is _ _ c.requires i.1 (omega arith) i.0 _ c.class_word-s.ensures in (
-      omega arith,
-      totals_more _ _ c.requires i.1 (omega arith) i.0 _ t (omega arith),
-      on i.2 (omega arith) (few_hold _ _ c.requires _ (omega arith)),
+    let t = total_is _ _ c.args.image.now.good i.0 (omega arith) (omega arith) _ c.class_word-s.ensures in (
+      totals_more _ _ c.args.image.now.good i.0 (omega arith) (omega arith) _ t (omega arith),
+      on i.1 (omega arith) (few_hold _ _ c.args.image.now.good _ (omega arith)),
     )
 
 pub returns : goal.returns
 unfolding first_place fields_rule
-returns c = none c.loop-c.invariant.2 (omega arith)
+returns c = none c.loop-c.invariant.1 (omega arith)

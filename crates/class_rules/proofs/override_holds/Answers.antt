@@ -7,40 +7,35 @@ use Rattle.class_rules.proofs.override_holds.Goals as goal
 
 pub class_word-above-requires : goal.class_word-above-requires
 class_word-above-requires c =
-    let p = c.requires in
-    let m = method_member _ _ p.0 _ p.1 in
-    (p.0.lay, omega arith)
+    let m = method_member _ _ c.args.image.now.good _ c.requires in
+    omega arith
 
-pub look_up-r-requires : goal.look_up-r-requires
-look_up-r-requires c =
-    let p = c.requires in
-    let m = method_member _ _ p.0 _ p.1 in
-    let b = super_below _ _ p.0 c.method_word-owner.result (omega arith) (omega arith) in
-    (p.0, omega arith, omega arith)
+pub look_up-requires : goal.look_up-requires
+look_up-requires c =
+    let m = method_member _ _ c.args.image.now.good _ c.requires in
+    let b = super_below _ _ c.args.image.now.good c.method_word-owner.result (omega arith) (omega arith) in
+    (omega arith, omega arith)
 
 pub overrides-requires : goal.overrides-requires
 overrides-requires c =
-    let p = c.requires in
-    let s = rw c.in-At.is at c.look_up-r.ensures in
-    (p.0, p.1, omega (arith, s.within))
+    let s = c.in-Some.ensures in
+    (c.requires, omega (arith, s.within))
 
-pub returns-in-At : goal.returns-in-At
-returns-in-At c =
-    let p = c.requires in
-    let s = rw c.in-At.is at c.look_up-r.ensures in
+pub returns-in-Some : goal.returns-in-Some
+returns-in-Some c =
+    let s = c.in-Some.ensures in
     rw c.overrides.ensures
-    (override_is _ _ (method_member _ _ p.0 _ p.1).class
+    (override_is _ _ (method_member _ _ c.args.image.now.good _ c.requires).class
     c.method_word-owner.ensures
     c.method_word-name.ensures
     c.class_word-above.ensures
     s.sees)
 
-pub returns-in-Nothing : goal.returns-in-Nothing
+pub returns-in-None : goal.returns-in-None
 unfolding overrides
-returns-in-Nothing c =
-    let p = c.requires in
-    let s = rw c.in-Nothing.is at c.look_up-r.ensures in
-    override_is _ _ (method_member _ _ p.0 _ p.1).class
+returns-in-None c =
+    let s = c.in-None.ensures in
+    override_is _ _ (method_member _ _ c.args.image.now.good _ c.requires).class
     c.method_word-owner.ensures
     c.method_word-name.ensures
     c.class_word-above.ensures

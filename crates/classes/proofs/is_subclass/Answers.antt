@@ -10,13 +10,13 @@ loop-at-init c = (search rules, refl)
 
 pub loop-at-smaller : goal.loop-at-smaller
 loop-at-smaller c =
-    let i = c.loop-at.invariant in rw c.class_word-at.ensures (super_below _ _ c.requires.0 _ i.0 (omega arith))
+    let i = c.loop-at.invariant in rw c.class_word-at.ensures (super_below _ _ c.args.image.now.good _ i.0 (omega arith))
 
 pub loop-at-preserved : goal.loop-at-preserved
 loop-at-preserved c =
     let i = c.loop-at.invariant in
-    let b = super_below _ _ c.requires.0 _ i.0 (omega arith) in
-    rw c.class_word-at.ensures (omega arith, subclass_step _ _ c.requires.0 _ _ i.0 c.loop-at-test.true ∙ i.1)
+    let b = super_below _ _ c.args.image.now.good _ i.0 (omega arith) in
+    rw c.class_word-at.ensures (omega arith, subclass_step _ _ c.args.image.now.good _ _ i.0 c.loop-at-test.true ∙ i.1)
 
 pub returns : goal.returns
-returns c = subclass_end _ _ c.requires.0 _ _ (omega arith) ∙ c.loop-at.invariant.1
+returns c = subclass_end _ _ c.args.image.now.good _ _ (omega arith) ∙ c.loop-at.invariant.1

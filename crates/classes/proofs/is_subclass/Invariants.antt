@@ -7,7 +7,7 @@ use mathlib.Core.Path.{◌≡◌}
 use Rattle.classes.proofs.is_subclass.Given as goal
 
 abbrev pub invariant-loop-at : goal.invariant-loop-at
-invariant-loop-at l = (l.at < class_count l.ws) × (subclass (program l.ws) l.at l.d ≡ subclass (program l.ws) l.c l.d)
+invariant-loop-at l = (l.at < class_count l.image.words.now) × (subclass (program l.image.words.now) l.at l.d ≡ subclass (program l.image.words.now) l.c l.d)
 
 abbrev pub decreases-loop-at : goal.decreases-loop-at
 decreases-loop-at l = l.at

@@ -7,17 +7,17 @@ use Rattle.comes.proofs.back_if.Goals as goal
 
 pub operand_place-requires : goal.operand_place-requires
 unfolding kind_of operands
-operand_place-requires c = let p = c.requires in (p.0, p.1, rw p.2 (omega arith))
+operand_place-requires c = (c.requires.0, rw c.requires.1 (omega arith))
 
 pub overflow_sub-result : goal.overflow_sub-result
 unfolding kind_of operands
-overflow_sub-result c = let p = c.requires in inner _ _ 12 (p.0.nodes c.args.p (rw (← p.0.lay.node_count_lem) p.1)) p.2 (omega arith)
+overflow_sub-result c = inner _ _ 12 (c.args.image.now.good.nodes c.args.p (rw (← c.args.image.now.good.lay.node_count_lem) c.requires.0)) c.requires.1 (omega arith)
 
-pub returns-in-Then : goal.returns-in-Then
-returns-in-Then c = λ hs D room may k. rw c.operand_place.ensures.0 (if_then _ D hs room _ _ _ may k (rw c.in-Then.is at c.if_redex.ensures))
+pub returns-in-Some-true : goal.returns-in-Some-true
+returns-in-Some-true c = λ hs D room may k. rw c.operand_place.ensures.0 (if_then _ D hs room _ _ _ may k (rw (c.in-Some-true.is, c.in-Some-true.field-0-test) at c.if_redex.ensures))
 
-pub returns-in-Otherwise : goal.returns-in-Otherwise
-returns-in-Otherwise c = λ hs D room may k. if_else _ D hs room _ _ _ may k (rw c.in-Otherwise.is at c.if_redex.ensures)
+pub returns-in-Some-false : goal.returns-in-Some-false
+returns-in-Some-false c = λ hs D room may k. if_else _ D hs room _ _ _ may k (rw (c.in-Some-false.is, c.in-Some-false.field-0-test) at c.if_redex.ensures)
 
-pub returns-in-Fails : goal.returns-in-Fails
-returns-in-Fails c = λ hs D room may k. if_stuck _ D hs room _ _ _ may k (rw c.in-Fails.is at c.if_redex.ensures)
+pub returns-in-None : goal.returns-in-None
+returns-in-None c = λ hs D room may k. if_stuck _ D hs room _ _ _ may k (rw c.in-None.is at c.if_redex.ensures)

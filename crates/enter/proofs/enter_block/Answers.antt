@@ -7,11 +7,11 @@ use native.Mathlib.Numerals.{add-one}
 use Rattle.enter.proofs.enter_block.Goals as goal
 
 pub push_block-requires : goal.push_block-requires
-push_block-requires c = let p = c.requires in (p.2, rw c.node_word-x.ensures (block_local _ _ (holds_at p.0 p.1) p.3))
+push_block-requires c = (c.requires.1, rw c.node_word-x.ensures (block_local _ _ (holds_at c.args.image.now.good c.requires.0) c.requires.2))
 
 pub overflow_sub-result : goal.overflow_sub-result
-overflow_sub-result c = let p = c.requires in not_first _ _ (holds_at p.0 p.1) (block_operand _ _ p.3)
+overflow_sub-result c = not_first _ _ (holds_at c.args.image.now.good c.requires.0) (block_operand _ _ c.requires.2)
 
 pub returns : goal.returns
 unfolding operand
-returns c = let p = c.requires in λ D hs may inv low h. (rw (c.push_block.ensures, c.node_word-x.ensures, c.node_word-t.ensures, add-one) (enter_block _ p.0.nodes D hs _ _ _ inv low p.3), refl)
+returns c = λ D hs may inv low h. (rw (c.push_block.ensures, c.node_word-x.ensures, c.node_word-t.ensures, add-one) (enter_block _ c.args.image.now.good.nodes D hs _ _ _ inv low c.requires.2), refl)

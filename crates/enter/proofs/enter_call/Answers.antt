@@ -6,7 +6,7 @@ use native.Mathlib.Numerals.{add-one}
 use Rattle.enter.proofs.enter_call.Goals as goal
 
 pub operand_place-m-requires : goal.operand_place-m-requires
-operand_place-m-requires c = let p = c.requires in (p.0, p.1, rw c.node_word-y.ensures (call_operand _ _ p.3))
+operand_place-m-requires c = (c.requires.0, rw c.node_word-y.ensures (call_operand _ _ c.requires.2))
 
 pub returns : goal.returns
-returns c = let p = c.requires in λ D hs may inv low h. (rw (c.push3.ensures, c.operand_place-m.ensures.0, c.node_word-y.ensures, add-one) (enter_call _ p.0.nodes D _ _ _ inv low p.3), refl)
+returns c = λ D hs may inv low h. (rw (c.push3.ensures, c.operand_place-m.ensures.0, c.node_word-y.ensures, add-one) (enter_call _ c.args.image.now.good.nodes D _ _ _ inv low c.requires.2), refl)

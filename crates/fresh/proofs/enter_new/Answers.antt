@@ -11,19 +11,19 @@ use native.Mathlib.Omega.{arith}
 use Rattle.fresh.proofs.enter_new.Goals as goal
 
 pub returns-then-not-may : goal.returns-then-not-may
-returns-then-not-may c = let p = c.requires in λ D inv low. (new_could _ p.0.nodes D _ _ _ _ inv low p.4 p.5 _ _ (new_opens _ _ _ p.5 _ _ (rw c.in-At.is at c.lowest_free.ensures)), c.if-not-may.true, refl)
+returns-then-not-may c = λ D inv low. (new_could _ c.args.table.now.image.good.nodes D _ _ _ _ inv low c.requires.2 c.requires.3 _ _ (new_opens _ _ _ c.requires.3 _ _ (rw c.in-Some.is at c.lowest_free.ensures)), c.if-not-may.true, refl)
 
 pub new_object-requires : goal.new_object-requires
-new_object-requires c = let p = c.requires in let o : Opens _ _ 0 _ _ = (new_opens _ _ _ p.5 _ _ (rw c.in-At.is at c.lowest_free.ensures)) in (p.0, p.1, p.5.words, rw (c.node_word-c.ensures, p.0.lay.class_count_lem) (new_class _ _ (holds_at p.0 p.2) p.4), o.inside, o.empty)
+new_object-requires c = let o : Opens _ _ 0 _ _ = (new_opens _ _ _ c.requires.3 _ _ (rw c.in-Some.is at c.lowest_free.ensures)) in (c.requires.3.words, rw (c.node_word-c.ensures, c.args.table.now.image.good.lay.class_count_lem) (new_class _ _ (holds_at c.args.table.now.image.good c.requires.0) c.requires.2), o.inside, o.empty)
 
 pub overflow_add-room : goal.overflow_add-room
-overflow_add-room c = let p = c.requires in let o : Opens _ _ 0 _ _ = (new_opens _ _ _ p.5 _ _ (rw c.in-At.is at c.lowest_free.ensures)) in omega (arith, o.known)
+overflow_add-room c = let o : Opens _ _ 0 _ _ = (new_opens _ _ _ c.requires.3 _ _ (rw c.in-Some.is at c.lowest_free.ensures)) in omega (arith, o.known)
 
 pub overflow_add-result : goal.overflow_add-result
-overflow_add-result c = let p = c.requires in let o : Opens _ _ 0 _ _ = (new_opens _ _ _ p.5 _ _ (rw c.in-At.is at c.lowest_free.ensures)) in omega (arith, o.known)
+overflow_add-result c = let o : Opens _ _ 0 _ _ = (new_opens _ _ _ c.requires.3 _ _ (rw c.in-Some.is at c.lowest_free.ensures)) in omega (arith, o.known)
 
-pub returns-in-Nowhere : goal.returns-in-Nowhere
-returns-in-Nowhere c = let p = c.requires in λ D inv low. (new_throws _ p.0.nodes D _ _ _ _ inv low p.4 p.5 (new_full _ _ _ p.5 _ (rw c.in-Nowhere.is at c.lowest_free.ensures)), λ e. refl)
+pub returns-in-None : goal.returns-in-None
+returns-in-None c = λ D inv low. (new_throws _ c.args.table.now.image.good.nodes D _ _ _ _ inv low c.requires.2 c.requires.3 (new_full _ _ _ c.requires.3 _ (rw c.in-None.is at c.lowest_free.ensures)), λ e. refl)
 
 pub returns-else-not-may : goal.returns-else-not-may
-returns-else-not-may c = let p = c.requires in λ D inv low. (rw (add-one c.in-At.a) (new_steps _ p.0.nodes D _ _ _ _ inv low p.4 p.5 _ _ (new_opens _ _ _ p.5 _ _ (rw c.in-At.is at c.lowest_free.ensures)) _ (rw c.node_word-c.ensures at c.new_object.ensures)), λ e. absurd (let z : true ≡ false = sym c.if-not-may.false ∙ e in let y : ◌≡◌ {A = ℕ} 0 1 = cc in omega arith))
+returns-else-not-may c = λ D inv low. (rw (add-one c.in-Some.a) (new_steps _ c.args.table.now.image.good.nodes D _ _ _ _ inv low c.requires.2 c.requires.3 _ _ (new_opens _ _ _ c.requires.3 _ _ (rw c.in-Some.is at c.lowest_free.ensures)) _ (rw c.node_word-c.ensures at c.new_object.ensures)), λ e. absurd (let z : true ≡ false = sym c.if-not-may.false ∙ e in let y : ◌≡◌ {A = ℕ} 0 1 = cc in omega arith))

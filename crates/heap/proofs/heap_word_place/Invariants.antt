@@ -1,5 +1,5 @@
--- `heap::heap_word_place` meets its contract.
-use Prim.Native.Nat.{◌*◌, ◌-◌, ◌≤◌}
+-- The invariant: every word of the slots passed holds.
+use Prim.Native.Nat.{◌*◌}
 use Rattle.heap.specs.Slots.{Clean}
 use Rattle.rules.specs.Heap.{slot_words}
 use Rattle.rules.specs.Numbers.{heap_word_rule}
@@ -7,7 +7,4 @@ use lib.ListN.{length}
 use Rattle.heap.proofs.heap_word_place.Given as goal
 
 abbrev pub invariant-loop-a : goal.invariant-loop-a
-invariant-loop-a l = (l.a ≤ l.slots) × Clean (heap_word_rule l.ws l.heap).holds (length l.heap) (slot_words * l.a)
-
-abbrev pub decreases-loop-a : goal.decreases-loop-a
-decreases-loop-a l = l.slots - l.a
+invariant-loop-a l = Clean (heap_word_rule l.table.image.words.now l.heap).holds (length l.heap) (slot_words * l.a)

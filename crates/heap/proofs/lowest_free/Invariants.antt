@@ -1,5 +1,5 @@
--- `heap::lowest_free` meets its contract.
-use Prim.Native.Nat.{◌-◌, ◌/◌}
+-- The invariant: what is left to scan gives the answer.
+use Prim.Native.Nat.{◌/◌}
 use Rattle.heap.specs.SlotLaws.{Since}
 use Rattle.heap.specs.Slots.{taken_at}
 use Rattle.rules.specs.Heap.{slot_words}
@@ -8,6 +8,3 @@ use Rattle.heap.proofs.lowest_free.Given as goal
 
 abbrev pub invariant-loop-a : goal.invariant-loop-a
 invariant-loop-a l = Since (taken_at l.heap) (length l.heap / slot_words) l.from l.a
-
-abbrev pub decreases-loop-a : goal.decreases-loop-a
-decreases-loop-a l = l.slots - l.a

@@ -1,11 +1,7 @@
--- `heap::zeros` meets its contract.
-use Prim.Native.Nat.{◌-◌, ◌≤◌}
-use Rattle.heap.specs.Slots.{ZerosAt}
-use mathlib.Core.Path.{◌≡◌}
+-- The invariant: the words passed, joined, are 0 where each is.
+use Rattle.std.proofs.Common.{◌≡◌, eqb, take}
+use Rattle.std.specs.List.{list_all}
 use Rattle.heap.proofs.zeros.Given as goal
 
-abbrev pub invariant-loop-k : goal.invariant-loop-k
-invariant-loop-k l = (l.k ≤ l.n) × (l.digits ≡ 0 → ZerosAt l.heap l.i l.k)
-
-abbrev pub decreases-loop-k : goal.decreases-loop-k
-decreases-loop-k l = l.n - l.k
+abbrev pub invariant-loop-w : goal.invariant-loop-w
+invariant-loop-w l = eqb l.digits 0 ≡ list_all (λ w. eqb w 0) (take l.w-index l.words)

@@ -1,7 +1,9 @@
 -- `memo::caught` meets its contract.
 use Rattle.memo.specs.MemoLaws.{learnt_catches, learnt_passes}
-use native.Mathlib.Omega.{arith}
 use Rattle.memo.proofs.caught.Goals as goal
 
-pub returns : goal.returns
-returns c = λ ws m k n. (λ z. learnt_passes ws _ k _ _ _ (c.seen.ensures.1 ws m (λ y. omega arith)) _ c.slot_class-first.ensures n z, λ z. learnt_catches ws _ k _ _ _ (c.seen.ensures.1 ws m (λ y. omega arith)) _ c.slot_class-first.ensures n z)
+pub returns-in-1 : goal.returns-in-1
+returns-in-1 c = λ ws m k n. let r = rw c.in_ok-seen.was at c.seen.ensures in learnt_passes ws _ k _ _ _ (r.learnt ws m) _ c.class_at-c.ensures.0 n c.in-1.is
+
+pub returns-in-2 : goal.returns-in-2
+returns-in-2 c = λ ws m k n. let r = rw c.in_ok-seen.was at c.seen.ensures in learnt_catches ws _ k _ _ _ (r.learnt ws m) _ c.class_at-c.ensures.0 n c.in-2.is

@@ -8,16 +8,16 @@ use native.Mathlib.Omega.{arith}
 use Rattle.memo.proofs.learn_field.Goals as goal
 
 pub is_subclass-requires : goal.is_subclass-requires
-is_subclass-requires c = let q = c.requires in let w = c.class_word-first.ensures c.if-first-eq0.false in (q.0, object_class _ _ _ q.0 q.2 _ _ w.1 c.if-first-eq0.false)
+is_subclass-requires c = let w = (rw c.in-Some.is at c.receiver_class.ensures.0) in (object_class _ _ _ c.args.table.now.image.good c.requires.0 _ _ w.1)
 
 pub field_index-requires : goal.field_index-requires
-field_index-requires c = let q = c.requires in let n = q.3 in let h = q.0.nodes _ n.0 in (q.0, q.1, omega (arith, c.node_word-d.ensures, field_class _ _ h n, q.0.lay.class_count_lem), omega (arith, c.node_word-name.ensures, field_name _ _ h n))
+field_index-requires c = let n = c.requires.1 in let h = c.args.table.now.image.good.nodes _ n.0 in (omega (arith, c.node_word-d.ensures, field_class _ _ h n, c.args.table.now.image.good.lay.class_count_lem), omega (arith, c.node_word-name.ensures, field_name _ _ h n))
 
 pub overflow_add-i : goal.overflow_add-i
-overflow_add-i c = let q = c.requires in let n = q.3 in let h = q.0.nodes _ n.0 in let f = index_few q.2 _ _ _ (omega (arith, c.node_word-d.ensures, field_class _ _ h n)) (rw c.in-At.is at c.field_index.ensures) in omega arith
+overflow_add-i c = let n = c.requires.1 in let h = c.args.table.now.image.good.nodes _ n.0 in let f = index_few c.requires.0 _ _ _ (omega (arith, c.node_word-d.ensures, field_class _ _ h n)) (rw c.in-Some-field_index.is at c.field_index.ensures) in omega arith
 
 pub keep-requires : goal.keep-requires
-keep-requires c = let q = c.requires in let n = q.3 in let h = q.0.nodes _ n.0 in let w = c.class_word-first.ensures c.if-first-eq0.false in let f = index_few q.2 _ _ _ (omega (arith, c.node_word-d.ensures, field_class _ _ h n)) (rw c.in-At.is at c.field_index.ensures) in (q.5.size, node_small _ _ q.0 _ n.0, class_small _ _ q.0 _ q.2 _ _ w.1 c.if-first-eq0.false, omega arith)
+keep-requires c = let n = c.requires.1 in let h = c.args.table.now.image.good.nodes _ n.0 in let w = (rw c.in-Some.is at c.receiver_class.ensures.0) in let f = index_few c.requires.0 _ _ _ (omega (arith, c.node_word-d.ensures, field_class _ _ h n)) (rw c.in-Some-field_index.is at c.field_index.ensures) in (c.requires.3.size, node_small _ _ c.args.table.now.image.good _ n.0, class_small _ _ c.args.table.now.image.good _ c.requires.0 _ _ w.1, omega arith)
 
 pub returns : goal.returns
-returns c = let q = c.requires in c.keep.ensures _ q.5 (keeps_field _ _ _ c.if-first-eq0.false q.3 (low _ _ q.0) _ _ _ c.node_word-name.ensures c.node_word-d.ensures (rw c.in-At.is at c.field_index.ensures) (sym c.is_subclass.ensures ∙ c.if-not-is_subclass.false))
+returns c = c.keep.ensures _ c.requires.3 (keeps_field _ _ _ c.requires.1 (low _ _ c.args.table.now.image.good) _ _ _ c.node_word-name.ensures c.node_word-d.ensures (rw c.in-Some-field_index.is at c.field_index.ensures) (sym c.is_subclass.ensures ∙ c.if-not-is_subclass.false))

@@ -1,10 +1,6 @@
 -- `memo::spot` meets its contract.
 use Rattle.memo.specs.MemoLaws.{learnt_spot}
-use mathlib.Core.Path.{refl}
 use Rattle.memo.proofs.spot.Goals as goal
 
-pub returns-then-o-eq0 : goal.returns-then-o-eq0
-returns-then-o-eq0 c = λ ws m k f d. absurd (d refl)
-
 pub returns : goal.returns
-returns c = λ ws m k f d. let e = c.seen-o.ensures.1 ws m c.if-o-eq0.false in let h = c.class_word-first.ensures e.taken in learnt_spot ws _ k _ _ _ e _ c.requires.2 h.0 h.1 c.if-o-eq0.false f
+returns c = λ ws m k f. let r = rw c.in_ok-o.was at c.seen.ensures in learnt_spot ws _ k _ _ _ (r.learnt ws m) _ c.requires.2 c.receiver_class-c.ensures.0 r.some f

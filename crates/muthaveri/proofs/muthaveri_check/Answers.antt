@@ -4,4 +4,4 @@ use mathlib.Core.Path.{◌∙◌, ap}
 use Rattle.muthaveri.proofs.muthaveri_check.Goals as goal
 
 pub returns : goal.returns
-returns c = c.told.ensures ∙ ap of_answer c.check_answer.ensures
+returns c = c.from.ensures ∙ ap of_answer c.check_answer.ensures

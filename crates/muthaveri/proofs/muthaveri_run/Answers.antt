@@ -5,4 +5,4 @@ use Rattle.muthaveri.proofs.muthaveri_run.Goals as goal
 pub returns : goal.returns
 returns c =
     let ran = c.run in
-    rw c.numbers_of-t.ensures (meets _ _ _ _ _ _ ran.result _ _ ran.ensures)
+    rw (c.from.ensures, c.from-told.ensures) (meets _ _ _ _ _ _ ran.result _ _ ran.ensures)

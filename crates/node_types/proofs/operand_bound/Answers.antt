@@ -1,16 +1,23 @@
--- `node_types::operand_bound` meets its contract.
-use Rattle.node_rules.specs.Env.{operand_var, operand_word}
-use Rattle.node_rules.specs.EnvLaws.{operand_var_other, word_small}
-use mathlib.Core.Path.{refl, sym}
+-- A Block and a Try bind a variable for their last operand.
+use Rattle.node_rules.specs.EnvLaws.{operand_var_other}
+use Rattle.node_types.specs.Bound.{last_block, last_none, last_try}
+use mathlib.Core.Path.{refl}
 use Rattle.node_types.proofs.operand_bound.Goals as goal
 
-pub bound_by-b-requires : goal.bound_by-b-requires
-bound_by-b-requires c = rw (c.kind_of-k.ensures, c.node_word.ensures, c.node_word-x.ensures, c.node_word-y.ensures) (word_small _ _ c.requires.0 c.args.n c.requires.1)
+pub returns-then-j-ne0 : goal.returns-then-j-ne0
+returns-then-j-ne0 c = operand_var_other _ _ _ c.if-j-ne0.true
 
-pub returns-then-j-eq0 : goal.returns-then-j-eq0
-unfolding operand_var operand_word
-returns-then-j-eq0 c = rw (c.if-j-eq0.true, c.bound_by-b.ensures.0, c.bound_by-b.ensures.1, c.kind_of-k.ensures, c.node_word.ensures, c.node_word-x.ensures, c.node_word-y.ensures) (refl, refl)
+pub returns-in-Block : goal.returns-in-Block
+returns-in-Block c =
+    let b = last_block _ _ c.args.image.now.good c.args.n c.requires (rw c.node_word.ensures at c.in-Block.ensures) in
+    rw (c.if-j-ne0.false, c.type_of.ensures, c.node_word-x.ensures, c.node_word-y.ensures, ← b.variable) (refl, b.type, b.local)
 
-pub returns-else-j-eq0 : goal.returns-else-j-eq0
-unfolding operand_word
-returns-else-j-eq0 c = (sym (operand_var_other _ _ _ c.if-j-eq0.false), rw (c.bound_by-b.ensures.1, c.kind_of-k.ensures, c.node_word.ensures, c.node_word-x.ensures, c.node_word-y.ensures))
+pub returns-in-Try : goal.returns-in-Try
+returns-in-Try c =
+    let b = last_try _ _ c.args.image.now.good c.args.n c.requires (rw c.node_word.ensures at c.in-Try.ensures) in
+    rw (c.if-j-ne0.false, c.node_word-x.ensures, c.node_word-y.ensures, ← b.variable) (refl, b.type, b.local)
+
+pub returns-in_default : goal.returns-in_default
+returns-in_default c =
+    rw c.if-j-ne0.false
+    (last_none c.args.image.now.words.now c.args.n (rw c.node_word.ensures at c.from.ensures) c.in_default.not-Block c.in_default.not-Try)

@@ -1,21 +1,16 @@
--- `nodes::reach` meets its contract.
-use Rattle.nodes.specs.Laws.{reach_none, reach_on, reach_out, reach_past}
-use borrow.Author.Rules.{rules}
-use mathlib.Core.Path.{◌∙◌, refl, sym}
-use native.Mathlib.Omega.{arith}
+-- One tree back, there is one tree less to go.
+use Rattle.std.proofs.Common.{◌≡◌, ◌-◌, ◌+◌, ◌≤◌, ◌∙◌, arith}
+use Rattle.nodes.specs.Laws.{reach_on}
 use Rattle.nodes.proofs.reach.Goals as goal
 
-pub loop-left-init : goal.loop-left-init
-loop-left-init c = (omega arith, refl)
-
-pub returns-then-at-eq0 : goal.returns-then-at-eq0
-returns-then-at-eq0 c = sym (reach_out _ c.loop-left.left c.loop-left.at (search rules) (search rules)) ∙ c.loop-left.invariant.1
-
-pub returns-then-size-at : goal.returns-then-size-at
-returns-then-size-at c = sym (reach_past _ c.loop-left.left c.loop-left.at (search rules) (rw (← c.node_word-size.ensures) c.if-size-at.true)) ∙ c.loop-left.invariant.1
-
-pub loop-left-preserved : goal.loop-left-preserved
-loop-left-preserved c = (omega arith, rw c.node_word-size.ensures (reach_on _ c.loop-left.left c.loop-left.at (search rules) (omega arith) (rw (← c.node_word-size.ensures) c.if-size-at.false) ∙ c.loop-left.invariant.1))
-
-pub returns : goal.returns
-returns c = sym (reach_none _ c.loop-left.left c.loop-left.at (omega arith)) ∙ c.loop-left.invariant.1
+pub loop-preserved : goal.loop-preserved
+loop-preserved c =
+    let fits : c.node_word.result ≤ c.loop.at = c.in_ok-at.ensures.0 in
+    let back : c.in_ok-at.at ≡ c.loop.at - c.node_word.result = c.in_ok-at.ensures.1 in
+    let left : c.args.k - (c.loop.counter + 1) ≡ c.args.k - c.loop.counter - 1 = omega arith in
+    let w = c.node_word.ensures in (
+      omega arith,
+      rw (back, left, w)
+          (reach_on _ (c.args.k - c.loop.counter) c.loop.at (omega arith) (omega arith) (rw w at fits)
+          ∙ c.loop.invariant.1),
+    )

@@ -1,11 +1,8 @@
--- `nodes::reach` meets its contract.
-use Prim.Native.Nat.{◌≤◌}
+-- The invariant: the trees that are left, from where the walk stands, begin where all of them do.
+use Rattle.std.proofs.Common.{◌≡◌, ◌≤◌, ◌-◌}
 use Rattle.image.specs.Nodes.{reach}
-use mathlib.Core.Path.{◌≡◌}
 use Rattle.nodes.proofs.reach.Given as goal
 
-abbrev pub invariant-loop-left : goal.invariant-loop-left
-invariant-loop-left l = (l.at ≤ l.e) × (reach l.ws l.left l.at ≡ reach l.ws l.k l.e)
-
-abbrev pub decreases-loop-left : goal.decreases-loop-left
-decreases-loop-left l = l.left
+abbrev pub invariant-loop : goal.invariant-loop
+invariant-loop l =
+    (l.at ≤ l.e) × (reach l.sections.words.now (l.k - l.counter) l.at ≡ reach l.sections.words.now l.k l.e)

@@ -1,6 +1,5 @@
--- `operands::operand_place` meets its contract.
-use Rattle.laws.specs.Trees.{operand_below}
-use Rattle.operands.specs.Laws.{operand_fits}
+-- Each operand passed fits before the one after it.
+use Rattle.operands.specs.Laws.{before, operand_fits}
 use Rattle.rules.specs.Trees.{operand}
 use mathlib.Core.Path.{◌≡◌, refl}
 use native.Mathlib.Numerals.{add-one}
@@ -8,18 +7,21 @@ use native.Mathlib.Omega.{arith}
 use Rattle.operands.proofs.operand_place.Goals as goal
 
 pub overflow_sub-at : goal.overflow_sub-at
-overflow_sub-at c = omega (arith, operand_below c.args.ws.now c.args.n (c.requires.0.nodes c.args.n (rw (← c.requires.0.lay.node_count_lem) c.requires.1)) 0 (omega (arith, c.requires.2)))
+overflow_sub-at c = omega (arith, before _ _ c.args.image.now.good _ c.requires.0 0 (omega (arith, c.requires.1)))
 
-pub loop-i-init : goal.loop-i-init
+pub loop-init : goal.loop-init
 unfolding operand
-loop-i-init c = (refl, omega arith, operand_below c.args.ws.now c.args.n (c.requires.0.nodes c.args.n (rw (← c.requires.0.lay.node_count_lem) c.requires.1)) 0 (omega (arith, c.requires.2)))
+loop-init c = (refl, before _ _ c.args.image.now.good _ c.requires.0 0 (omega (arith, c.requires.1)))
 
-pub overflow_sub-at-in-loop-i : goal.overflow_sub-at-in-loop-i
-overflow_sub-at-in-loop-i c = let f = rw (← c.loop-i.invariant.0, ← c.node_word.ensures) at (operand_fits c.args.ws.now c.args.n (c.requires.0.nodes c.args.n (rw (← c.requires.0.lay.node_count_lem) c.requires.1)) c.loop-i.i (omega (arith, c.requires.2))) in omega (arith, f)
+pub overflow_sub-at-in-loop : goal.overflow_sub-at-in-loop
+overflow_sub-at-in-loop c =
+    let g = c.args.image.now.good in
+    let f = operand_fits _ _ (g.nodes c.args.n (rw (← g.lay.node_count_lem) c.requires.0)) c.loop.counter (omega (arith, c.requires.1)) in
+    omega (arith, rw (← c.loop.invariant.0, ← c.node_word.ensures) at f)
 
-pub loop-i-preserved : goal.loop-i-preserved
+pub loop-preserved : goal.loop-preserved
 unfolding operand
-loop-i-preserved c = let f = rw (← c.loop-i.invariant.0, ← c.node_word.ensures) at (operand_fits c.args.ws.now c.args.n (c.requires.0.nodes c.args.n (rw (← c.requires.0.lay.node_count_lem) c.requires.1)) c.loop-i.i (omega (arith, c.requires.2))) in (rw (add-one c.loop-i.i, ← c.loop-i.invariant.0, ← c.node_word.ensures), omega arith, omega (arith, f))
+loop-preserved c = (rw (add-one c.loop.counter, ← c.loop.invariant.0, ← c.node_word.ensures), omega (arith, c.loop.invariant.1))
 
 pub returns : goal.returns
-returns c = let e : c.loop-i.i ≡ c.args.j = omega arith in (rw (← e) c.loop-i.invariant.0, c.loop-i.invariant.2)
+returns c = let e : c.loop.counter ≡ c.args.j = omega arith in rw (← e) c.loop.invariant

@@ -1,11 +1,8 @@
--- `operands::operand_place` meets its contract.
-use Prim.Native.Nat.{◌-◌, ◌<◌, ◌≤◌}
+-- The invariant: the place reached is that of the operand that has as many others behind it as were passed.
+use Prim.Native.Nat.{◌<◌}
 use Rattle.rules.specs.Trees.{operand}
 use mathlib.Core.Path.{◌≡◌}
 use Rattle.operands.proofs.operand_place.Given as goal
 
-abbrev pub invariant-loop-i : goal.invariant-loop-i
-invariant-loop-i l = (l.at ≡ operand l.ws l.n l.i) × (l.i ≤ l.j) × (l.at < l.n)
-
-abbrev pub decreases-loop-i : goal.decreases-loop-i
-decreases-loop-i l = l.j - l.i
+abbrev pub invariant-loop : goal.invariant-loop
+invariant-loop l = (l.at ≡ operand l.image.words.now l.n l.counter) × (l.at < l.n)

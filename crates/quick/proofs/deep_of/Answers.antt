@@ -10,9 +10,6 @@ returns-then-kind c = let p = c.requires in deep_self _ _ _ p.1.0
 pub overflow_sub-n : goal.overflow_sub-n
 overflow_sub-n c = let p = c.requires in let k = not_neither _ c.if-kind.false in let h = p.0.holds _ p.1.0 in let f = first_place_lem _ _ h (pair_two _ _ k p.1.1) in omega (arith, f)
 
-pub word_at-requires : goal.word_at-requires
-word_at-requires c = let p = c.requires in let k = not_neither _ c.if-kind.false in let h = p.0.holds _ p.1.0 in let f = first_place_lem _ _ h (pair_two _ _ k p.1.1) in (p.0, omega (arith, p.1.0), omega arith)
-
 pub overflow_sub-result : goal.overflow_sub-result
 overflow_sub-result c = let p = c.requires in let k = not_neither _ c.if-kind.false in let h = p.0.holds _ p.1.0 in let f = first_place_lem _ _ h (pair_two _ _ k p.1.1) in omega (arith, f, c.word_at.ensures, c.if-word_at-eq1.true)
 

@@ -9,9 +9,6 @@ overflow_sub-result c = let p = c.requires in let f = first_place_lem _ _ (p.0.h
 pub overflow_sub-n : goal.overflow_sub-n
 overflow_sub-n c = let p = c.requires in let f = first_place_lem _ _ (p.0.holds _ p.1) p.2 in omega (arith, f)
 
-pub word_at-requires : goal.word_at-requires
-word_at-requires c = let p = c.requires in let f = first_place_lem _ _ (p.0.holds _ p.1) p.2 in (p.0, omega (arith, p.1), omega arith)
-
 pub overflow_sub-result-2 : goal.overflow_sub-result-2
 overflow_sub-result-2 c = let p = c.requires in let f = first_place_lem _ _ (p.0.holds _ p.1) p.2 in omega (arith, f, c.word_at.ensures)
 

@@ -8,11 +8,8 @@ use Rattle.quick.proofs.get_at.Goals as goal
 pub overflow_sub-n : goal.overflow_sub-n
 overflow_sub-n c = let p = c.requires in let n = p.1.0 in let e = p.1.1 in let h = p.0.holds _ n in let o = operand_below _ _ h 0 (get_one _ _ e) in omega (arith, o)
 
-pub leaf-requires : goal.leaf-requires
-leaf-requires c = let p = c.requires in let n = p.1.0 in let e = p.1.1 in let h = p.0.holds _ n in let o = operand_below _ _ h 0 (get_one _ _ e) in (p.0, omega (arith, n), p.2)
-
 pub field-requires : goal.field-requires
-field-requires c = let p = c.requires in let n = p.1.0 in let e = p.1.1 in let h = p.0.holds _ n in let o = operand_below _ _ h 0 (get_one _ _ e) in let a = c.leaf.ensures c.args.heap.now in ((n, e), p.0.small, p.3, p.4, known_valued _ p.0.holds c.args.heap.now _ a, omega (arith, a.few))
+field-requires c = let p = c.requires in let n = p.1.0 in let e = p.1.1 in let h = p.0.holds _ n in let o = operand_below _ _ h 0 (get_one _ _ e) in let a = c.leaf.ensures c.args.heap.now in ((n, e), p.0.small, p.3, p.4, known_valued _ p.0.holds c.args.heap.now _ _ _ _ a)
 
 pub returns : goal.returns
-returns c = let p = c.requires in let n = p.1.0 in let e = p.1.1 in let h = p.0.holds _ n in let o = operand_below _ _ h 0 (get_one _ _ e) in let a = c.leaf.ensures c.args.heap.now in known_get _ p.0.holds _ _ e (known_last _ p.0.holds _ _ c.args.n refl a) c.field.ensures (omega arith)
+returns c = let p = c.requires in let n = p.1.0 in let e = p.1.1 in let h = p.0.holds _ n in let o = operand_below _ _ h 0 (get_one _ _ e) in let a = c.leaf.ensures c.args.heap.now in known_get _ p.0.holds _ _ _ 0 _ _ e (known_last _ p.0.holds _ _ _ c.args.n 0 _ refl a) c.field.ensures (omega arith)

@@ -1,13 +1,9 @@
 -- `quick::leaf` meets its contract.
-use Rattle.laws.specs.Tags.{word_low}
-use Rattle.quick.specs.KnownLaws.{known_literal, known_none, known_var}
+use Rattle.quick.specs.KnownLaws.{known_literal, known_var}
 use Rattle.room.specs.Nodes.{var_local}
 use mathlib.Core.Path.{◌∙◌, sym}
 use native.Mathlib.Omega.{arith}
 use Rattle.quick.proofs.leaf.Goals as goal
-
-pub overflow_add-result : goal.overflow_add-result
-overflow_add-result c = omega (arith, word_low _ c.literal_at.ensures.1)
 
 pub bounds-room-word_at : goal.bounds-room-word_at
 bounds-room-word_at c = let p = c.requires in let b = var_local _ _ (p.0.holds _ p.1) (sym c.word_at.ensures ∙ c.in-3.is) in rw c.word_at-in-3.ensures (omega (arith, p.2.long, b))
@@ -15,8 +11,5 @@ bounds-room-word_at c = let p = c.requires in let b = var_local _ _ (p.0.holds _
 pub returns-in-2 : goal.returns-in-2
 returns-in-2 c = let p = c.requires in λ hs. known_literal _ p.0.holds hs _ _ _ (sym c.word_at.ensures ∙ c.in-2.is) c.literal_at.ensures.0 c.literal_at.ensures.1
 
-pub returns-in-3 : goal.returns-in-3
-returns-in-3 c = let p = c.requires in λ hs. known_var _ p.0.holds hs _ _ _ p.1 (sym c.word_at.ensures ∙ c.in-3.is) c.word_at-in-3.ensures p.2
-
-pub returns-in_default : goal.returns-in_default
-returns-in_default c = let p = c.requires in λ hs. known_none _ p.0.holds hs _ _ _ _ c.unknown.ensures.0 c.unknown.ensures.1
+pub returns-else-w-eq0 : goal.returns-else-w-eq0
+returns-else-w-eq0 c = let p = c.requires in λ hs. known_var _ p.0.holds hs _ _ _ _ p.1 (sym c.word_at.ensures ∙ c.in-3.is) c.word_at-in-3.ensures p.2 (omega (arith, c.if-w-eq0.false))

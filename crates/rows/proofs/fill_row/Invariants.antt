@@ -1,12 +1,7 @@
--- `rows::fill_row` meets its contract.
-use Prim.Native.Nat.{◌-◌, ◌≤◌}
+-- The invariant: the row has the types of the fields above, and of the class's own up to record j.
 use Rattle.rows.specs.Rows.{Part}
-use lib.ListN.{length}
-use mathlib.Core.Path.{◌≡◌}
+use Rattle.std.proofs.Common.{◌+◌, ◌-◌}
 use Rattle.rows.proofs.fill_row.Given as goal
 
 abbrev pub invariant-loop-j : goal.invariant-loop-j
-invariant-loop-j l = (l.i ≤ l.j) × Part l.ws l.types l.c l.j l.m × (l.j ≤ l.end) × (length l.types ≡ length l.initial.types)
-
-abbrev pub decreases-loop-j : goal.decreases-loop-j
-decreases-loop-j l = l.end - l.j
+invariant-loop-j l = Part l.image.words.now l.types l.c l.j (l.above + (l.j - l.i))

@@ -1,23 +1,15 @@
--- `rows::own_rank` meets its contract.
-use Rattle.rows.specs.IndexLaws.{rank_back, rank_first, rank_other, rank_start}
-use mathlib.Core.Path.{◌∙◌, sym}
+-- Going back, the records of the class are counted until another class stands there.
+use Rattle.rows.specs.IndexLaws.{rank_first, rank_other}
+use Prim.Native.Nat.{◌-◌}
+use mathlib.Core.Path.{◌≡◌, ◌∙◌}
 use native.Mathlib.Omega.{arith}
 use Rattle.rows.proofs.own_rank.Goals as goal
 
-pub loop-k-init : goal.loop-k-init
-loop-k-init c = rank_start _ _ _
-
-pub field_word-requires : goal.field_word-requires
-field_word-requires c = let p = c.requires in let w = c.loop-k.invariant.within in (p.0.lay, omega (arith, p.1), omega arith)
-
-pub overflow_sub-result : goal.overflow_sub-result
-overflow_sub-result c = c.loop-k.invariant.within
-
 pub returns-then-field_word-d : goal.returns-then-field_word-d
-returns-then-field_word-d c = let p = c.requires in rank_other _ _ p.0 c.loop-k.invariant (omega (arith, p.1, p.0.lay.field_count_lem)) p.2 (omega arith) (λ e. c.if-field_word-d.true (c.field_word.ensures ∙ e))
-
-pub loop-k-preserved : goal.loop-k-preserved
-loop-k-preserved c = rank_back c.loop-k.invariant (omega arith) (sym c.field_word.ensures ∙ c.if-field_word-d.false)
+returns-then-field_word-d c =
+    let z : c.args.i - (c.loop-k.k - 1) - 1 ≡ c.args.i - c.loop-k.k = omega (arith, c.loop-k.invariant.within) in
+    let h = c.requires.0 in
+    rw z (rank_other _ _ c.args.image.now.good c.loop-k.invariant (omega (arith, c.args.image.now.good.lay.field_count_lem)) c.requires.1 c.loop-k-test.true (λ e. c.if-field_word-d.true (c.field_word.ensures ∙ e)))
 
 pub returns : goal.returns
-returns c = let p = c.requires in rank_first _ _ p.0 c.loop-k.invariant (omega arith)
+returns c = rank_first _ _ c.args.image.now.good c.loop-k.invariant (omega arith)

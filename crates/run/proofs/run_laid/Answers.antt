@@ -4,11 +4,11 @@ use mathlib.Core.Path.{◌∙◌, refl, sym}
 use native.Mathlib.Omega.{arith}
 use Rattle.run.proofs.run_laid.Goals as goal
 
-pub returns-in-At : goal.returns-in-At
-returns-in-At c = record { numbers = fields_refused _ _ _ _ _ _ c.requires.1 (sym c.fields_place.ensures ∙ c.in-At.is); heap = refl; room = refl }
+pub returns-in-Some : goal.returns-in-Some
+returns-in-Some c = record { numbers = fields_refused _ _ _ _ _ _ c.requires (sym c.fields_place.ensures ∙ c.in-Some.is); heap = refl; room = refl }
 
-pub run_few-requires : goal.run_few-requires
-run_few-requires c = let p = c.requires in (p.0, p.1, sym c.fields_place.ensures ∙ c.in_default.is, omega (arith, p.0.lay.class_count_lem))
+pub run_within-requires : goal.run_within-requires
+run_within-requires c = (c.requires, sym c.fields_place.ensures ∙ c.in_default.is, omega (arith, c.args.image.now.good.lay.class_count_lem), omega arith)
 
-pub run_many-requires : goal.run_many-requires
-run_many-requires c = let p = c.requires in (p.0, p.1, sym c.fields_place.ensures ∙ c.in_default.is)
+pub run_within-requires-else-image-le-FEW_CLASSES : goal.run_within-requires-else-image-le-FEW_CLASSES
+run_within-requires-else-image-le-FEW_CLASSES c = (c.requires, sym c.fields_place.ensures ∙ c.in_default.is, omega (arith, c.args.image.now.good.small.classes, c.args.image.now.good.lay.class_count_lem), omega arith)

@@ -1,18 +1,6 @@
 -- `start::clear_start` meets its contract.
-use Prim.Native.Nat.{◌-◌}
-use Rattle.start.specs.StartLaws.{zeros_on, zeros_start}
-use Rattle.start.specs.Start.{start_words}
-use borrow.Author.Rules.{rules}
-use lib.ListN.{length, length-set}
-use mathlib.Core.Path.{◌≡◌, refl}
-use native.Mathlib.Omega.{arith}
+use Rattle.start.specs.StartLaws.{zeros_front}
 use Rattle.start.proofs.clear_start.Goals as goal
 
-pub loop-i-init : goal.loop-i-init
-loop-i-init c = (zeros_start _, refl, omega arith)
-
-pub loop-i-preserved : goal.loop-i-preserved
-loop-i-preserved c = (zeros_on c.loop-i.invariant.0 (search rules), simp length-set c.loop-i.invariant.1, omega arith)
-
 pub returns : goal.returns
-returns c = let e : c.loop-i.i ≡ start_words = omega (arith, c.loop-i.invariant.2) in (rw e at c.loop-i.invariant.0, c.loop-i.invariant.1)
+returns c = zeros_front _ 65 c.requires (c.fill.ensures.after (λ y h. h))

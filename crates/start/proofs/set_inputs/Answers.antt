@@ -1,9 +1,8 @@
 -- `start::set_inputs` meets its contract.
-use Prim.Native.Nat.{◌-◌}
 use Rattle.laws.specs.Tags.{word_low}
 use Rattle.start.specs.StartLaws.{filled_on, filled_start, filled_whole}
 use borrow.Author.Rules.{rules}
-use lib.ListN.{length, length-set}
+use lib.ListN.{length-set}
 use mathlib.Core.Path.{refl}
 use native.Mathlib.Omega.{arith}
 use Rattle.start.proofs.set_inputs.Goals as goal

@@ -1,5 +1,5 @@
 -- `start::set_inputs` meets its contract.
-use Prim.Native.Nat.{◌-◌, ◌≤◌}
+use Prim.Native.Nat.{◌≤◌}
 use Rattle.start.specs.Start.{Filled}
 use lib.ListN.{length}
 use mathlib.Core.Path.{◌≡◌}
@@ -7,6 +7,3 @@ use Rattle.start.proofs.set_inputs.Given as goal
 
 abbrev pub invariant-loop-i : goal.invariant-loop-i
 invariant-loop-i l = Filled l.inputs l.room l.i × (length l.room ≡ length l.initial.room) × (l.i ≤ length l.inputs)
-
-abbrev pub decreases-loop-i : goal.decreases-loop-i
-decreases-loop-i l = length l.inputs - l.i

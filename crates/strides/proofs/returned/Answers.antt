@@ -1,15 +1,11 @@
 use Rattle.strides.specs.ReachLaws.{onward_start}
-use Rattle.strides.proofs.returned.Reads as reads
-use Rattle.strides.proofs.returned.Lts as lts
-use Rattle.strides.proofs.backs.Reads as backs-reads
-use Rattle.strides.proofs.landed.Reads as landed-reads
 use Rattle.strides.proofs.returned.Goals as goal
 
 pub backs-requires : goal.backs-requires
-backs-requires c = (c.requires.0, rw c.if-e-eq-VALUE.true at c.requires.1, c.requires.2, c.requires.3, c.requires.4 c.if-e-eq-VALUE.true)
+backs-requires c = (rw c.in-Value.is at c.requires.0, c.requires.1, c.requires.2, rw c.in-Value.is at c.requires.3)
 
-pub returns-then-e-eq-VALUE : goal.returns-then-e-eq-VALUE
-returns-then-e-eq-VALUE c = rw c.if-e-eq-VALUE.true c.backs.ensures
+pub returns-in-Value : goal.returns-in-Value
+returns-in-Value c = rw c.in-Value.is c.backs.ensures
 
-pub returns : goal.returns
-returns c = let o = onward_start _ _ _ c.requires.1 c.requires.2 in rw c.landed.ensures (record { low = o.low; leads = o.leads })
+pub returns-in_default : goal.returns-in_default
+returns-in_default c = let o = onward_start _ _ _ c.requires.0 c.requires.1 in rw c.at.ensures (record { low = o.low; leads = o.leads })

@@ -5,19 +5,19 @@ use native.Mathlib.Omega.{arith}
 use Rattle.turns.proofs.turn.Goals as goal
 
 pub enter-requires : goal.enter-requires
-enter-requires c = (c.requires.0, c.requires.1, rw c.in-Node.is at c.requires.2, c.requires.3)
+enter-requires c = (rw c.in-Node.is at c.requires.0, c.requires.1)
 
 pub returns-then-l-eq0 : goal.returns-then-l-eq0
 returns-then-l-eq0 c = rw c.in-Value.is (c.if-l-eq0.true, refl)
 
 pub value_back-requires : goal.value_back-requires
-value_back-requires c = let e : c.args.l ≡ suc (c.args.l - 1) = omega (arith, c.if-l-eq0.false) in let v = rw c.in-Value.is at c.requires.2 in (c.requires.0, c.requires.1.sizes, rw e at v, c.requires.3)
+value_back-requires c = let e : c.args.l ≡ suc (c.args.l - 1) = omega (arith, c.if-l-eq0.false) in let v = rw c.in-Value.is at c.requires.0 in (rw e at v, c.requires.1)
 
 pub returns-then-l-eq0-2 : goal.returns-then-l-eq0-2
 returns-then-l-eq0-2 c = rw c.in-Thrown.is (c.if-l-eq0-2.true, refl)
 
 pub unwind-requires : goal.unwind-requires
-unwind-requires c = let e : c.args.l ≡ suc (c.args.l - 1) = omega (arith, c.if-l-eq0-2.false) in let v = rw c.in-Thrown.is at c.requires.2 in (c.requires.0, rw e at v, c.requires.3)
+unwind-requires c = let e : c.args.l ≡ suc (c.args.l - 1) = omega (arith, c.if-l-eq0-2.false) in let v = rw c.in-Thrown.is at c.requires.0 in (rw e at v, c.requires.1)
 
 pub returns-in-Node : goal.returns-in-Node
 returns-in-Node c = rw c.in-Node.is c.enter.ensures

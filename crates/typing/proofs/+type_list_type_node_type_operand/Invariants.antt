@@ -1,5 +1,5 @@
--- `type_list`, `type_node` and `type_operand`, which call each other, meet their contracts. A call of a node comes back to its operands, whose numbers are lower.
-use Prim.Native.Nat.{◌*◌, ◌-◌, suc}
+-- A node's typing comes back to its operands, whose numbers are lower.
+use Prim.Native.Nat.{◌*◌, suc}
 use Rattle.node_types.specs.ListLaws.{Listing}
 use mathlib.Core.Path.{◌≡◌}
 use Rattle.typing.proofs.+type_list_type_node_type_operand.Given as goal
@@ -14,7 +14,4 @@ abbrev pub decreases-type_operand : goal.decreases-type_operand
 decreases-type_operand l = 3 * l.n
 
 abbrev pub invariant-type_list-loop-i : goal.invariant-type_list-loop-i
-invariant-type_list-loop-i l = (l.env ≡ l.initial.env) × Listing l.ws l.n l.initial.env l.types l.i
-
-abbrev pub decreases-type_list-loop-i : goal.decreases-type_list-loop-i
-decreases-type_list-loop-i l = l.count - l.i
+invariant-type_list-loop-i l = (l.env ≡ l.initial.env) × Listing l.image.words.now l.n l.initial.env l.types l.i

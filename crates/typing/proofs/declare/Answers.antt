@@ -1,32 +1,23 @@
--- `typing::declare` meets its contract.
+-- The variables from j + 1 on have their types.
 use Prim.Native.Nat.{◌+◌, ◌-◌, ◌<◌}
+use Rattle.image.specs.Records.{type_at}
 use Rattle.image.specs.Trailer.{type_count}
-use Rattle.node_rules.specs.Env.{type_words}
+use Rattle.node_rules.specs.Env.{Has}
 use Rattle.typing.specs.Untyped.{declare_end, declare_on, declare_start, type_declared}
-use mathlib.Core.Path.{◌∙◌, sym}
+use Rattle.words.specs.Types.{type_of}
+use mathlib.Core.Path.{◌≡◌}
 use native.Mathlib.Omega.{arith}
 use Rattle.typing.proofs.declare.Goals as goal
 
 pub loop-j-init : goal.loop-j-init
-loop-j-init c = declare_start _ _ _ _ c.requires.1 c.requires.2
-
-pub type_word-requires : goal.type_word-requires
-type_word-requires c = (c.requires.0.lay, omega (arith, c.loop-j.invariant.within))
-
-pub overflow_add-env : goal.overflow_add-env
-overflow_add-env c = let b : (c.args.first + (c.loop-j.j - 1)) < type_count c.args.ws.now = omega (arith, c.requires.0.lay.type_count_lem, c.loop-j.invariant.within) in let w : c.type_word.result < type_words c.args.ws.now = rw c.type_word.ensures (type_declared _ _ (c.requires.0.types (c.args.first + (c.loop-j.j - 1)) b)) in omega (arith, c.loop-j.invariant.within)
-
-pub overflow_add-env-in-loop-j : goal.overflow_add-env-in-loop-j
-overflow_add-env-in-loop-j c = let b : (c.args.first + (c.loop-j.j - 1)) < type_count c.args.ws.now = omega (arith, c.requires.0.lay.type_count_lem, c.loop-j.invariant.within) in let w : c.type_word.result < type_words c.args.ws.now = rw c.type_word.ensures (type_declared _ _ (c.requires.0.types (c.args.first + (c.loop-j.j - 1)) b)) in omega (arith, c.loop-j.invariant.within, c.requires.0.small.classes)
-
-pub bounds-env-j : goal.bounds-env-j
-bounds-env-j c = omega (arith, c.loop-j.invariant.within, c.loop-j.invariant.ok.size)
+loop-j-init c = declare_start _ _ _ _ c.requires.0 c.requires.1
 
 pub loop-j-preserved : goal.loop-j-preserved
-loop-j-preserved c = let b : (c.args.first + (c.loop-j.j - 1)) < type_count c.args.ws.now = omega (arith, c.requires.0.lay.type_count_lem, c.loop-j.invariant.within) in let w : c.type_word.result < type_words c.args.ws.now = rw c.type_word.ensures (type_declared _ _ (c.requires.0.types (c.args.first + (c.loop-j.j - 1)) b)) in declare_on _ _ _ _ c.loop-j.j _ c.loop-j.invariant (omega arith) (omega arith) c.type_word.ensures w
-
-pub shape_of-env : goal.shape_of-env
-shape_of-env c = c.loop-j.invariant.ok.size ∙ sym c.requires.1.size
+loop-j-preserved c =
+    let b : (c.args.first + (c.loop-j.j - 1)) < type_count c.args.image.now.words.now = omega (arith, c.args.image.now.good.lay.type_count_lem, c.loop-j.invariant.within) in
+    let e : c.type_of.result ≡ type_of (type_at c.args.image.now.words.now (c.args.first + (c.loop-j.j - 1))) = rw (c.type_of.ensures, c.type_word.ensures) in
+    let w : Has c.args.image.now.words.now c.type_of.result = rw e (type_declared _ _ (c.args.image.now.good.types (c.args.first + (c.loop-j.j - 1)) b)) in
+    declare_on _ _ _ _ c.loop-j.j _ c.loop-j.invariant c.loop-j-test.true (omega arith) e w
 
 pub returns : goal.returns
 returns c = (c.loop-j.invariant.ok, declare_end _ _ _ _ c.loop-j.j c.loop-j.invariant (omega arith))

@@ -1,23 +1,19 @@
--- `typing::untyped_place` meets its contract.
-use Prim.Native.Nat.{◌-◌}
+-- Every node of the bodies passed has a type.
 use Rattle.figures.proofs.Bodies.{held_on}
-use Rattle.typing.specs.Untyped.{main_untyped, method_typed, method_untyped, method_tests, none_untyped}
-use borrow.Author.Rules.{rules}
-use mathlib.Core.Path.{◌≡◌}
+use Rattle.typing.specs.Untyped.{main_answer, method_typed, method_untyped, method_tests}
+use mathlib.Core.Path.{◌≡◌, ◌∙◌}
 use native.Mathlib.Omega.{arith}
 use Rattle.typing.proofs.untyped_place.Goals as goal
 
-pub loop-i-init : goal.loop-i-init
-loop-i-init c = (omega arith, λ j w. absurd (omega arith))
-
-pub returns-in-Not : goal.returns-in-Not
-returns-in-Not c = method_untyped _ _ c.requires _ _ _ (search rules) c.loop-i.invariant.1 c.type_method.ensures c.in-Not.is
+pub returns-in-Err : goal.returns-in-Err
+returns-in-Err c = method_untyped _ _ c.args.image.now.good _ _ _ c.loop-i-test.true c.loop-i.invariant c.type_method.ensures c.in-Err.is
 
 pub loop-i-preserved : goal.loop-i-preserved
-loop-i-preserved c = (search rules, held_on (method_tests c.args.ws.now) _ c.loop-i.invariant.1 (method_typed _ _ c.requires _ _ _ c.type_method.ensures c.in-Is.is))
+loop-i-preserved c =
+    held_on (method_tests c.args.image.now.words.now) _ c.loop-i.invariant
+    (method_typed _ _ c.args.image.now.good _ _ _ c.type_method.ensures c.in_default.is)
 
-pub returns-in-Is-type_main : goal.returns-in-Is-type_main
-returns-in-Is-type_main c = let e : c.loop-i.i ≡ c.args.l.method_count = omega arith in none_untyped _ _ c.requires _ _ (rw e at c.loop-i.invariant.1) c.type_main.ensures c.in-Is-type_main.is
-
-pub returns-in-Not-type_main : goal.returns-in-Not-type_main
-returns-in-Not-type_main c = let e : c.loop-i.i ≡ c.args.l.method_count = omega arith in main_untyped _ _ c.requires _ _ (rw e at c.loop-i.invariant.1) c.type_main.ensures c.in-Not-type_main.is
+pub returns : goal.returns
+returns c =
+    let e : c.loop-i.i ≡ c.args.image.now.layout.method_count = omega arith in
+    c.err.ensures.value ∙ main_answer _ _ c.args.image.now.good _ (rw e at c.loop-i.invariant) c.type_main.ensures

@@ -1,27 +1,26 @@
 -- `back_leaps::backs::first_of_pair` meets its contract.
-use Prim.Native.Nat.{◌-◌, suc}
 use Rattle.back_leaps.specs.BackLaps.{pair_lands}
-use Rattle.landings.specs.LandsLaws.{lands_still}
+use Rattle.room.specs.RoomLaws.{kept_refl}
 use mathlib.Core.List.{[]}
 use mathlib.Core.Logic.{inl}
-use mathlib.Core.Path.{◌≡◌}
+use mathlib.Core.Path.{refl}
 use native.Mathlib.Omega.{arith}
 use Rattle.back_leaps.proofs.backs.first_of_pair.Goals as goal
 
 pub first-requires : goal.first-requires
 first-requires c = let p = c.requires in (inl p.2, p.3, p.5)
 
-pub returns-then-b-eq0 : goal.returns-then-b-eq0
-returns-then-b-eq0 c = λ D hs k. c.first.ensures _ D hs k
+pub returns-in_default : goal.returns-in_default
+returns-in_default c = λ D hs k. c.first.ensures _ D hs k
 
-pub pair_word-h-requires : goal.pair_word-h-requires
-pair_word-h-requires c = let z : c.leaf-b.result.held ≡ suc (c.leaf-b.result.held - 1) = omega (arith, c.if-b-eq0.false) in (c.requires.2, c.requires.6, ((c.leaf-b.ensures []).eval _ z).is_value_lem)
+pub pair_word-requires : goal.pair_word-requires
+pair_word-requires c = let b = rw c.in-Some.is at (c.leaf.ensures []) in (c.requires.2, c.requires.6, b.eval.is_value_lem)
 
-pub returns-then-h-eq0 : goal.returns-then-h-eq0
-returns-then-h-eq0 c = λ D hs k. lands_still c.none.ensures
+pub returns-in_err-u : goal.returns-in_err-u
+returns-in_err-u c = λ D hs k. rw c.from_residual.ensures (kept_refl _ _, refl)
 
 pub overflow_add-b : goal.overflow_add-b
-overflow_add-b c = omega (arith, (c.leaf-b.ensures []).few)
+overflow_add-b c = let b = rw c.in-Some.is at (c.leaf.ensures []) in omega (arith, b.few)
 
 pub returns : goal.returns
-returns c = λ D hs k. let z : c.leaf-b.result.held ≡ suc (c.leaf-b.result.held - 1) = omega (arith, c.if-b-eq0.false) in let y : c.pair_word-h.result ≡ suc (c.pair_word-h.result - 1) = omega (arith, c.if-h-eq0.false) in rw c.at_value.ensures (pair_lands _ D hs _ _ _ _ _ _ c.requires.2 k _ _ ((c.leaf-b.ensures hs).eval _ z) (c.pair_word-h.ensures _ y) (c.leaf-b.ensures hs).few)
+returns c = λ D hs k. let b = rw c.in-Some.is at (c.leaf.ensures hs) in rw c.at_value.ensures (pair_lands _ D hs _ _ _ _ _ _ c.requires.2 k _ _ b.eval c.in_ok-u.ensures b.few)

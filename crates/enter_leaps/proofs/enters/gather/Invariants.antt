@@ -4,6 +4,3 @@ use Rattle.enter_leaps.proofs.enters.gather.Given as goal
 
 abbrev pub invariant-loop-k : goal.invariant-loop-k
 invariant-loop-k l = Gathers l.ws l.heap l.initial.room l.l l.n l.y l.room l.end l.k l.steps
-
-abbrev pub decreases-loop-k : goal.decreases-loop-k
-decreases-loop-k l = l.k

@@ -5,11 +5,11 @@ use native.Mathlib.Numerals.{add-one}
 use native.Mathlib.Omega.{arith}
 use Rattle.enter_leaps.proofs.enters.repeat.Goals as goal
 
-pub returns-then-h-eq-TRUE : goal.returns-then-h-eq-TRUE
-returns-then-h-eq-TRUE c = λ ws hs g e m k D inv h low. rw (c.push.ensures, c.at_node.ensures, add-one) (again_lands g inv h low e (rw m at k) c.if-h-eq-TRUE.true)
+pub returns-in-Some : goal.returns-in-Some
+returns-in-Some c = λ ws hs g e m k D inv h low. rw (c.push.ensures, c.at_node.ensures, add-one) (again_lands g inv h low e (rw (c.in-Some.is, m) at k) c.if-v-eq-TRUE.true)
 
-pub returns-then-h-eq-FALSE : goal.returns-then-h-eq-FALSE
-returns-then-h-eq-FALSE c = λ ws hs g e m k D inv h low. rw c.at_value.ensures (over_lands g inv h low e (rw m at k) c.if-h-eq-FALSE.true)
+pub returns-in-Some-2 : goal.returns-in-Some-2
+returns-in-Some-2 c = λ ws hs g e m k D inv h low. rw c.at_value.ensures (over_lands g inv h low e (rw (c.in-Some-2.is, m) at k) c.if-v-eq-FALSE.true)
 
-pub returns : goal.returns
-returns c = λ ws hs g e m k D inv h low. rw (c.push-2.ensures, c.at_node-2.ensures, add-one, m) (lands_node (while_leaps g inv h low e) (omega arith))
+pub returns-in_default : goal.returns-in_default
+returns-in_default c = λ ws hs g e m k D inv h low. rw (c.push-in_default.ensures, c.at_node-in_default.ensures, add-one, m) (lands_node (while_leaps g inv h low e) (omega arith))
