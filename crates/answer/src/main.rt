@@ -14,7 +14,7 @@ mod questions;
 
 ghost use Rattle.std.specs.Prelude.{◌≤◌, ◌<◌, length};
 
-use cases::{Line, MOST_NUMBERS, MOST_WORDS};
+use cases::{LentLine, MOST_NUMBERS, MOST_WORDS};
 use lines::faults::{Fault, Kind};
 use lines::print;
 use questions::Memory;
@@ -28,7 +28,7 @@ const PIECE: usize = 65536;
 // there are, and whether the input has ended. The piece is lent memory and is read in steps, so the two counts stand beside it.
 #[derive(Drop)]
 struct Reader<'a> {
-    line: Line<'a>,
+    line: LentLine<'a>,
     piece: &'a mut [u8],
     at: usize,
     count: usize,
@@ -53,7 +53,7 @@ impl<'a> Reader<'a> {
             }
             Ok(n) => self.count = n,
             Err(_) => {
-                print::wrong(rt, self.line.number, Fault::at_head(Kind::NoInput))?;
+                print::wrong(rt, self.line.line.number, Fault::at_head(Kind::NoInput))?;
                 self.count = 0;
                 self.is_ended = true;
             }
@@ -78,7 +78,7 @@ fn read_all(
 ) -> io::Result<()> {
     for _ in 0..u64::MAX {
         reader.read(rt, input)?;
-        if reader.line.is_whole {
+        if reader.line.line.is_whole {
             questions::answer(rt, &mut reader.line, memory)?;
         }
         if reader.is_ended {
@@ -111,7 +111,7 @@ fn answer_input(rt: &(impl Input + Print)) -> io::Result<()> {
     let mut inputs = text::zeros::<u64, MOST_WORDS>();
     let mut room = text::zeros::<u64, MOST_WORDS>();
     let mut reader = Reader {
-        line: Line::new(1, &mut head, &mut numbers),
+        line: LentLine::new(1, &mut head, &mut numbers),
         piece: &mut piece,
         at: 0,
         count: 0,

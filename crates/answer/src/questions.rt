@@ -1,6 +1,6 @@
 // The questions. A new one is a variant of `lines::heads::Question` with its word and its parts, an arm in `answer`, and
 // its function.
-use cases::Line;
+use cases::LentLine;
 use lines::heads::Question;
 use lines::{heads, parts, print};
 use order::Answer;
@@ -17,11 +17,13 @@ pub struct Memory<'a> {
 }
 
 // Answers a line that is whole and not empty.
-pub fn answer(rt: &impl Print, line: &mut Line<'_>, memory: &mut Memory<'_>) -> io::Result<()> {
+pub fn answer(rt: &impl Print, line: &mut LentLine<'_>, memory: &mut Memory<'_>) -> io::Result<()> {
     let words = &mut *memory.words;
     let inputs = &mut *memory.inputs;
     let room = &mut *memory.room;
-    let Some(case) = heads::case(rt, line, words)? else {
+    let counts = line.line;
+    let head = &line.head[..counts.head_len];
+    let Some(case) = heads::case(rt, &counts, head, line.numbers, words)? else {
         return Ok(());
     };
     let image = &words[..case.words];
@@ -54,15 +56,15 @@ pub struct Limits {
 fn run_in(
     rt: &impl Print,
     image: &[u32],
-    line: &mut Line<'_>,
+    line: &mut LentLine<'_>,
     inputs: &mut [u64],
     room: &mut [u64],
 ) -> io::Result<()> {
-    let n = parts::copy(line, 2, inputs);
-    let lent = parts::room(line, room.len());
+    let n = parts::copy(&line.line, line.numbers, 2, inputs);
+    let lent = parts::room(&line.line, line.numbers, room.len());
     let l = Limits {
-        steps: parts::single(line, 4),
-        depth: parts::single(line, 5),
+        steps: parts::single(&line.line, line.numbers, 4),
+        depth: parts::single(&line.line, line.numbers, 5),
     };
     let span = line.span(1);
     let heap = &mut line.numbers[span.start..span.end];

@@ -117,7 +117,7 @@ pub fn block(room: &mut [u64], i: usize, w: u64) -> Option<Leap>
 
 // An If.
 pub fn choice(ws: &[u32], nodes: usize, p: usize, i: usize, w: u64) -> Option<Leap>
-    requires { Tabled ws.now nodes × IsNode ws.now p 12 × IsValue w }
+    requires { Tabled ws.now nodes × IsNode ws.now p 12 }
     ensures { (room : List ℕ) → LandsBack ws.now room 12 p i w room result }
 {
     if redexes::if_redex(w)? {
@@ -129,7 +129,7 @@ pub fn choice(ws: &[u32], nodes: usize, p: usize, i: usize, w: u64) -> Option<Le
 
 // The If of a loop: it becomes the Seq of the body and the loop, or the loop is over.
 pub fn test(room: &mut [u64], p: usize, i: usize, w: u64) -> Option<Leap>
-    requires { (1 ≤ p) × (frame_at (suc i) ≤ length room.old) × IsValue w }
+    requires { (1 ≤ p) × (frame_at (suc i) ≤ length room.old) }
     ensures { (ws : List ℕ) → LandsBack ws room.old 13 p i w room.new result }
 {
     if redexes::if_redex(w)? {

@@ -1,7 +1,7 @@
 -- The memory that a line holds. Assumes nothing.
 use Rattle.std.specs.Prelude.{◌≡◌, length}
-use Rattle.cases.specs.declared.Line.{Line}
+use Rattle.cases.specs.declared.LentLine.{LentLine}
 
 -- a line holds as much memory as before
-abbrev pub Keeps : Line → Line → Type 0
+abbrev pub Keeps : LentLine → LentLine → Type 0
 Keeps old new = (length new.head.now ≡ length old.head.now) × (length new.numbers.now ≡ length old.numbers.now)

@@ -24,20 +24,17 @@ pub const MOST_WORDS: usize = 131072;
 // The numbers of a line: a full image, as many words behind it, and a few numbers more.
 pub const MOST_NUMBERS: usize = 262160;
 
-// A line so far. The line's end counts as a bar, so that part k has the numbers from bar k to bar k + 1. The program
-// takes nothing from a heap: the memory is lent, and how much of it is filled stands beside it.
-#[derive(Drop)]
-pub struct Line<'a> {
+// A line so far. The line's end counts as a bar, so that part k has the numbers from bar k to bar k + 1.
+#[derive(Clone, Copy)]
+pub struct Line {
     // the line's own number, from 1
     pub number: u64,
     pub fault: Option<Fault>,
     // the end was read
     pub is_whole: bool,
-    // the head, and how many bytes it has
-    pub head: &'a mut [u8],
+    // how many bytes the head has
     pub head_len: usize,
-    // the numbers, how many there are, and how many of them are in the part that is read
-    pub numbers: &'a mut [u64],
+    // how many numbers there are, and how many of them are in the part that is read
     pub count: usize,
     pub words: usize,
     // how many numbers stand before each bar, and how many bars there are
@@ -45,34 +42,69 @@ pub struct Line<'a> {
     pub bar_count: usize,
     // in a word of a part, the number that its digits are
     pub value: Option<u64>,
-    ghost head_fits: { head_len ≤ length head.now },
-    ghost numbers_fit: { count ≤ length numbers.now },
-    ghost bars_fit: { bar_count ≤ 16 },
+}
+
+impl Line {
+    // The places of the numbers of part k, of so many. There are none where its bars are not in order.
+    pub fn span(&self, k: usize, most: usize) -> Range<usize>
+        ensures { (result.start ≤ result.end) × (result.end ≤ most) }
+    {
+        if k < 15 {
+            let from = self.bars[k];
+            let to = self.bars[k + 1];
+            if from <= to && to <= most {
+                return from..to;
+            }
+        }
+        0..0
+    }
+
+    // The numbers of part k, among all that there are.
+    pub fn part<'a>(&self, numbers: &'a [u64], k: usize) -> &'a [u64]
+        ensures { length result.now ≤ length numbers.now }
+    {
+        let span = self.span(k, numbers.len());
+        &numbers[span.start..span.end]
+    }
+}
+
+// A line so far, with the memory that its head and its numbers go into. The program takes nothing from a heap, so it
+// is lent, and how much of it is filled stands in the line.
+#[derive(Drop)]
+pub struct LentLine<'a> {
+    pub line: Line,
+    pub head: &'a mut [u8],
+    pub numbers: &'a mut [u64],
+    ghost head_fits: { line.head_len ≤ length head.now },
+    ghost numbers_fit: { line.count ≤ length numbers.now },
+    ghost bars_fit: { line.bar_count ≤ 16 },
 }
 
 fn is_bar(b: u8) -> bool {
     (b == b'|') | (b == b'\n')
 }
 
-impl<'a> Line<'a> {
+impl<'a> LentLine<'a> {
     ghost use Rattle.cases.specs.Kept.{Keeps};
 
     // The line with a number, before its first byte.
     pub fn new(number: u64, head: &'a mut [u8], numbers: &'a mut [u64]) -> Self
-        ensures { (result.head_len ≡ 0) × (result.count ≡ 0) × (result.bar_count ≡ 0) }
+        ensures { (result.line.head_len ≡ 0) × (result.line.count ≡ 0) × (result.line.bar_count ≡ 0) }
     {
-        Line {
-            number,
-            fault: None,
-            is_whole: false,
+        LentLine {
+            line: Line {
+                number,
+                fault: None,
+                is_whole: false,
+                head_len: 0,
+                count: 0,
+                words: 0,
+                bars: [0; 16],
+                bar_count: 0,
+                value: None,
+            },
             head,
-            head_len: 0,
             numbers,
-            count: 0,
-            words: 0,
-            bars: [0; 16],
-            bar_count: 0,
-            value: None,
         }
     }
 
@@ -82,12 +114,12 @@ impl<'a> Line<'a> {
         ensures read { result ≤ length piece.now }
         ensures lent { Keeps self.old self.new }
     {
-        if self.is_whole {
+        if self.line.is_whole {
             self.next();
         }
         for (i, b) in piece.iter().enumerate() {
             self.step(*b);
-            if self.is_whole {
+            if self.line.is_whole {
                 return i + 1;
             }
         }
@@ -97,30 +129,30 @@ impl<'a> Line<'a> {
     fn next(&mut self)
         ensures { Keeps self.old self.new }
     {
-        self.number = self.number.wrapping_add(1);
-        self.fault = None;
-        self.is_whole = false;
-        self.head_len = 0;
-        self.count = 0;
-        self.words = 0;
-        self.bar_count = 0;
-        self.value = None;
+        self.line.number = self.line.number.wrapping_add(1);
+        self.line.fault = None;
+        self.line.is_whole = false;
+        self.line.head_len = 0;
+        self.line.count = 0;
+        self.line.words = 0;
+        self.line.bar_count = 0;
+        self.line.value = None;
     }
 
     // Where the line stands is its count of bars, so the choice is a test of it and no state of its own.
     fn step(&mut self, b: u8)
         ensures { Keeps self.old self.new }
     {
-        self.is_whole = b == b'\n';
-        if self.fault.is_some() {
+        self.line.is_whole = b == b'\n';
+        if self.line.fault.is_some() {
             return;
         }
-        let read = if self.bar_count == 0 {
+        let read = if self.line.bar_count == 0 {
             self.in_head(b)
         } else {
             self.in_part(b)
         };
-        self.fault = read.err();
+        self.line.fault = read.err();
     }
 
     // In the head, blanks count as one, and those at its start are left out.
@@ -130,7 +162,7 @@ impl<'a> Line<'a> {
         if is_bar(b) {
             return self.mark();
         }
-        let n = self.head_len;
+        let n = self.line.head_len;
         let is_blank = text::is_blank(b);
         if is_blank && (n == 0 || self.head[n - 1] == b' ') {
             return Ok(());
@@ -139,7 +171,7 @@ impl<'a> Line<'a> {
             return Err(Fault::NoBar);
         }
         self.head[n] = if is_blank { b' ' } else { b };
-        self.head_len = n + 1;
+        self.line.head_len = n + 1;
         Ok(())
     }
 
@@ -147,22 +179,22 @@ impl<'a> Line<'a> {
     fn mark(&mut self) -> Result<(), Fault>
         ensures { Keeps self.old self.new }
     {
-        if 16 <= self.bar_count {
+        if 16 <= self.line.bar_count {
             return Err(Fault::ManyParts);
         }
-        self.bars[self.bar_count] = self.count;
-        self.bar_count += 1;
-        self.words = 0;
-        self.value = None;
+        self.line.bars[self.line.bar_count] = self.line.count;
+        self.line.bar_count += 1;
+        self.line.words = 0;
+        self.line.value = None;
         Ok(())
     }
 
     fn in_part(&mut self, b: u8) -> Result<(), Fault>
         ensures { Keeps self.old self.new }
     {
-        match text::feed(self.value.unwrap_or(0), b) {
+        match text::feed(self.line.value.unwrap_or(0), b) {
             Ok(v) => {
-                self.value = Some(v);
+                self.line.value = Some(v);
                 Ok(())
             }
             Err(NotFed::NoDigit) => self.behind(b),
@@ -189,44 +221,35 @@ impl<'a> Line<'a> {
     fn put(&mut self) -> Result<(), Fault>
         ensures { Keeps self.old self.new }
     {
-        let Some(v) = self.value else {
+        let Some(v) = self.line.value else {
             return Ok(());
         };
-        if MOST_WORDS <= self.words || self.numbers.len() <= self.count {
+        if MOST_WORDS <= self.line.words || self.numbers.len() <= self.line.count {
             return Err(Fault::ManyNumbers);
         }
-        self.numbers[self.count] = v;
-        self.count += 1;
-        self.words += 1;
-        self.value = None;
+        self.numbers[self.line.count] = v;
+        self.line.count += 1;
+        self.line.words += 1;
+        self.line.value = None;
         Ok(())
     }
 
     pub fn head(&self) -> &[u8]
-        ensures { result.now ≡ take self.now.head_len self.now.head.now }
+        ensures { result.now ≡ take self.now.line.head_len self.now.head.now }
     {
-        &self.head[..self.head_len]
+        &self.head[..self.line.head_len]
     }
 
-    // The places of the numbers of part k. There are none where its bars are not in order.
+    // The same of its own numbers.
     pub fn span(&self, k: usize) -> Range<usize>
         ensures { (result.start ≤ result.end) × (result.end ≤ length self.now.numbers.now) }
     {
-        if k < 15 {
-            let from = self.bars[k];
-            let to = self.bars[k + 1];
-            if from <= to && to <= self.numbers.len() {
-                return from..to;
-            }
-        }
-        0..0
+        self.line.span(k, self.numbers.len())
     }
 
-    // The numbers of part k.
     pub fn part(&self, k: usize) -> &[u64]
         ensures { length result.now ≤ length self.now.numbers.now }
     {
-        let span = self.span(k);
-        &self.numbers[span.start..span.end]
+        self.line.part(self.numbers, k)
     }
 }

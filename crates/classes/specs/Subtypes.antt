@@ -1,11 +1,12 @@
 -- Laws: lists of types, one below the other type by type.
-use Rattle.std.specs.Prelude.{◌≡◌, refl, Bool, true, false, ◌&&◌}
-use Rattle.std.proofs.Common.{ap, arith}
+use Rattle.std.specs.Prelude.{◌≡◌, refl, Bool, true, false, ◌&&◌, List, [], ◌∷◌, length}
+use Rattle.std.proofs.Common.{ap, arith, sym, ◌∙◌}
 use Prim.Native.Nat.{ℕ, zero, suc, ◌<◌}
 use Rattle.words.specs.declared.Ty.{Ty}
 use Rattle.rules.specs.Maps.{tabulate}
 use Rattle.rules.specs.Program.{Program}
 use Rattle.rules.specs.Classes.{subtype, subtypes}
+use Rattle.laws.specs.Maps.{length_tabulate}
 
 module _ (P : Program) where
   -- each is below the one at its place
@@ -28,10 +29,13 @@ module _ (P : Program) where
       last_false (subtype P (a 0) (b 0)) (subtypes_not n (λ i. a (suc i)) (λ i. b (suc i)) i (omega arith) e)
 
   -- one list is longer
+  pub subtypes_length : (ts us : List Ty) → (length ts ≡ length us → ⊥) → subtypes P ts us ≡ false
+  unfolding subtypes
+  subtypes_length [] [] h = absurd (h refl)
+  subtypes_length [] (u ∷ us) h = refl
+  subtypes_length (t ∷ ts) [] h = refl
+  subtypes_length (t ∷ ts) (u ∷ us) h = sym (last_false (subtype P t u) (sym (subtypes_length ts us (λ e. h (ap suc e)))))
+
   pub subtypes_lengths : (n m : ℕ) (a b : ℕ → Ty) → (n ≡ m → ⊥) → false ≡ subtypes P (tabulate n a) (tabulate m b)
-  unfolding subtypes tabulate
-  subtypes_lengths zero zero a b h = absurd (h refl)
-  subtypes_lengths zero (suc m) a b h = refl
-  subtypes_lengths (suc n) zero a b h = refl
-  subtypes_lengths (suc n) (suc m) a b h =
-      last_false (subtype P (a 0) (b 0)) (subtypes_lengths n m (λ i. a (suc i)) (λ i. b (suc i)) (λ e. h (ap suc e)))
+  subtypes_lengths n m a b h =
+      sym (subtypes_length (tabulate n a) (tabulate m b) (λ e. h (sym (length_tabulate n a) ∙ e ∙ length_tabulate m b)))

@@ -104,6 +104,16 @@ carry ws Methods d c name (Some r) e s =
 carry ws Methods d c name None e s = sym e ∙ s
 
 module _ (ws : List ℕ) (l : Layout) (g : Good ws l) where
+  pub size_of_lem : (m : Members) → size_of l m ≡ count_of ws m
+  unfolding size_of count_of
+  size_of_lem Fields = g.lay.field_count_lem
+  size_of_lem Methods = g.lay.method_count_lem
+
+  pub size_small : (m : Members) → size_of l m ≤ 1024
+  unfolding size_of
+  size_small Fields = g.small.fields
+  size_small Methods = g.small.methods
+
   fields_rise : Rising (λ i. field_word ws i 0 * names + field_word ws i 1) (field_count ws)
   fields_rise i h =
       rises_key (field_word ws i 0) (field_word ws i 1) (field_word ws (suc i) 0) (field_word ws (suc i) 1)

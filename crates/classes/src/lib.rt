@@ -3,7 +3,7 @@
 // tables of members are sorted, so that a member is looked up by halves.
 #![tactic(auto)]
 
-ghost use Rattle.std.specs.Prelude.{◌≡◌, true, ◌+◌, ◌*◌, ◌^◌, ◌≤◌, ◌<◌};
+ghost use Rattle.std.specs.Prelude.{◌≡◌, true, [], ◌+◌, ◌*◌, ◌^◌, ◌≤◌, ◌<◌, length, get_or};
 ghost use Rattle.image.specs.Numbers.{highest_name};
 ghost use Rattle.image.specs.Trailer.{class_count};
 ghost use Rattle.words.specs.Types.{known};
@@ -11,6 +11,8 @@ ghost use Rattle.rules.specs.Program.{program};
 ghost use Rattle.rules.specs.Classes.{subclass, subtype, same_type};
 ghost use Rattle.classes.specs.Sees.{Sees};
 ghost use Rattle.classes.specs.Keys.{names, count_of, key_of, Finds};
+ghost use Rattle.classes.specs.Search.{Rising};
+ghost use Rattle.classes.specs.Chunks.{chunk_key};
 
 use image::Image;
 use words::Ty;
@@ -73,8 +75,30 @@ fn key(c: usize, name: usize) -> usize
     c * NAMES + name
 }
 
-// The record of a name that class c itself declares. A field's record is 3 words, and a method's 6: the two arms are plainer than a
-// function that is handed both the widths and the key.
+// The record of a key, of records that rise by their keys. The first two words of a record are its class and its name. By halves, and not
+// by the library's search, which goes on where it has met the key.
+fn find<const N: usize>(records: &[[u32; N]], wanted: usize) -> Option<usize>
+    requires { (1 < N) × Rising (λ i. chunk_key (get_or records.now i [])) (length records.now) }
+    ensures { Finds (λ i. chunk_key (get_or records.now i [])) (length records.now) wanted result }
+{
+    let mut lo = 0;
+    let mut hi = records.len();
+    while lo < hi {
+        let mid = lo + (hi - lo) / 2;
+        let k = key(records[mid][0] as usize, records[mid][1] as usize);
+        if k == wanted {
+            return Some(mid);
+        }
+        if k < wanted {
+            lo = mid + 1;
+        } else {
+            hi = mid;
+        }
+    }
+    None
+}
+
+// The record of a name that class c itself declares. A field's record is 3 words, and a method's 6.
 fn own(image: &Image, m: Members, c: usize, name: usize) -> Option<usize>
     requires { (c < image.now.layout.class_count) × (name ≤ highest_name) }
     ensures { Finds (key_of image.now.words.now m) (count_of image.now.words.now m) (c * names + name) result }
@@ -84,16 +108,11 @@ fn own(image: &Image, m: Members, c: usize, name: usize) -> Option<usize>
     match m {
         Members::Fields => {
             let (fields, _) = image.words[l.fields..l.methods].as_chunks::<3>();
-            let found = fields.binary_search_by_key(&wanted, |f| key(f[0] as usize, f[1] as usize));
-            found.ok()
+            find(fields, wanted)
         },
         Members::Methods => {
             let (methods, _) = image.words[l.methods..l.types].as_chunks::<6>();
-            let found = methods.binary_search_by_key(
-                &wanted,
-                |m| key(m[0] as usize, m[1] as usize),
-            );
-            found.ok()
+            find(methods, wanted)
         },
     }
 }

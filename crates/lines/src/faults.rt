@@ -69,7 +69,12 @@ pub struct Case {
 }
 
 // The case that a line is, or the first thing that is wrong with the line.
-pub fn case_of(line: &Line<'_>, head: Head<'_>, words: &mut [u32]) -> Result<Case, Fault<Kind>>
+pub fn case_of(
+    line: &Line,
+    numbers: &[u64],
+    head: Head<'_>,
+    words: &mut [u32],
+) -> Result<Case, Fault<Kind>>
     ensures { IfOk result (λ c. c.words ≤ length words.old) }
 {
     let question = question_of(line, head).map_err(|kind| Fault {
@@ -77,17 +82,17 @@ pub fn case_of(line: &Line<'_>, head: Head<'_>, words: &mut [u32]) -> Result<Cas
         part: line.bar_count,
         word: line.words,
     })?;
-    let words = parts::image(line, words).map_err(|word| Fault {
+    let words = parts::image(line, numbers, words).map_err(|word| Fault {
         kind: Kind::WideWord,
         part: 1,
         word,
     })?;
-    singles(question, line)?;
+    singles(question, line, numbers)?;
     Ok(Case { question, words })
 }
 
 // In the order in which a line is read.
-fn question_of(line: &Line<'_>, head: Head<'_>) -> Result<Question, Kind> {
+fn question_of(line: &Line, head: Head<'_>) -> Result<Question, Kind> {
     let question = Question::of(head.question).ok_or(Kind::NoQuestion)?;
     if head.name.is_empty() {
         return Err(Kind::NoName);
@@ -112,9 +117,9 @@ fn question_of(line: &Line<'_>, head: Head<'_>) -> Result<Question, Kind> {
 }
 
 // Of the parts that are one number each, the first is a room.
-fn singles(question: Question, line: &Line<'_>) -> Result<(), Fault<Kind>> {
+fn singles(question: Question, line: &Line, numbers: &[u64]) -> Result<(), Fault<Kind>> {
     for k in question.many()..question.parts() {
-        if line.part(k).len() != 1 {
+        if line.part(numbers, k).len() != 1 {
             return Err(Fault {
                 kind: Kind::NotOne,
                 part: k + 1,
@@ -123,7 +128,7 @@ fn singles(question: Question, line: &Line<'_>) -> Result<(), Fault<Kind>> {
         }
     }
     let room = question.many();
-    if room < question.parts() && MOST_ROOM < parts::single(line, room) {
+    if room < question.parts() && MOST_ROOM < parts::single(line, numbers, room) {
         return Err(Fault::at_head(Kind::LongRoom));
     }
     Ok(())

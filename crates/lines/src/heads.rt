@@ -8,15 +8,20 @@ use std::io;
 
 // The case that a line is; none where the line is empty, or no case, which is then told. The words of its image
 // go into `words`. The name of a case is written, and its answer is to follow.
-pub fn case(rt: &impl Print, line: &Line<'_>, words: &mut [u32]) -> io::Result<Option<Case>>
+pub fn case(
+    rt: &impl Print,
+    line: &Line,
+    head: &[u8],
+    numbers: &[u64],
+    words: &mut [u32],
+) -> io::Result<Option<Case>>
     ensures { IfOk result (λ case. IfSome case (λ c. c.words ≤ length words.old)) }
 {
-    let bytes = line.head();
-    if bytes.is_empty() && line.bar_count < 2 && line.fault.is_none() {
+    if head.is_empty() && line.bar_count < 2 && line.fault.is_none() {
         return Ok(None);
     }
-    let head = split(bytes);
-    match faults::case_of(line, head, words) {
+    let head = split(head);
+    match faults::case_of(line, numbers, head, words) {
         Ok(case) => {
             print::name(rt, head.name)?;
             Ok(Some(case))

@@ -5,10 +5,10 @@ ghost use Rattle.std.specs.Prelude.{◌≡◌, ◌^◌, ◌≤◌, ◌<◌};
 ghost use Rattle.order.specs.Rules.{first_place};
 ghost use Rattle.image.specs.Nodes.{operands, spans, size_is, node_holds, body_start, body_holds, filled_holds};
 ghost use Rattle.image.specs.Nodes.{reach as Nodes·reach};
-ghost use Rattle.image.specs.Layout.{node_rule, body_rule};
+ghost use Rattle.image.specs.Layout.{Lay, node_rule, body_rule};
 ghost use Rattle.nodes.specs.Laws.{Inside};
 
-use image::{Kind, Sections};
+use image::{Kind, Layout, Sections};
 
 // Where the k trees that end just before node e begin, if they stand in the table.
 #[tactic(auto, using(crate::specs::Laws::reach_none, crate::specs::Laws::reach_out, crate::specs::Laws::reach_past, crate::specs::Laws::reach_on))]
@@ -70,14 +70,14 @@ pub fn node_place(sections: &Sections) -> Option<usize>
 
 // Where body i begins.
 #[tactic(auto, using(crate::specs::Laws::start_after), unfolding(image::specs::Nodes::body_start))]
-pub fn body_start(sections: &Sections, i: usize) -> usize
-    requires { i ≤ sections.now.layout.method_count }
-    ensures { (result ≡ body_start sections.now.words.now i) × (result ≤ 2 ^ 32) }
+pub fn body_start(ws: &[u32], l: Layout, i: usize) -> usize
+    requires { Lay ws.now l × (i ≤ l.method_count) }
+    ensures { (result ≡ body_start ws.now i) × (result ≤ 2 ^ 32) }
 {
     if i == 0 {
         return 0;
     }
-    sections.method_word(i - 1, 5) as usize + 1
+    image::method_word(ws, l, i - 1, 5) as usize + 1
 }
 
 // A body from node b to node n.
@@ -95,7 +95,7 @@ fn filled_holds(sections: &Sections, i: usize) -> bool
     requires { i ≤ sections.now.layout.method_count }
     ensures { result ≡ filled_holds sections.now.words.now i }
 {
-    let b = body_start(sections, i);
+    let b = body_start(sections.words, sections.layout, i);
     if i < sections.layout.method_count {
         return body_holds(sections, b, sections.method_word(i, 5) as usize);
     }

@@ -10,7 +10,7 @@ use borrow.Author.Tests.{ltb-true, eqb-true, eqb-false, eq-eqb, ne_eqb}
 use Rattle.words.specs.declared.Value.{Value}
 use Rattle.words.specs.declared.Value.TheVariants.{Null, Intg, Addr}
 use Rattle.words.specs.Value.{addresses, word_of, tag_of, payload_of, value_with, value_of, is_value}
-use Rattle.words.proofs.ValueLaws.{tag_of_lem, payload_of_lem}
+use Rattle.words.proofs.ValueLaws.{decode_encode, tag_of_lem, payload_of_lem}
 use Rattle.words.specs.Integer.{plus_of}
 use Rattle.image.specs.Trailer.{class_count}
 use Rattle.image.specs.Records.{method_word}
@@ -30,6 +30,7 @@ use Rattle.laws.specs.Heap.{Words, fields_at, written_word, written_same, look_f
 use Rattle.classes.specs.Sees.{MethodAt}
 use Rattle.heap.specs.Slots.{class_at}
 use Rattle.heap.specs.SlotLaws.{class_none, class_some}
+use Rattle.std.specs.declared.option.Option.{Option as Maybe}
 use Rattle.std.specs.declared.option.Option.TheVariants.{Some, None}
 use Rattle.redexes.specs.declared.Outcome.TheVariants.{Gives, Raises, Fails}
 use Rattle.redexes.specs.Outcomes.{redex_of, Chooses, ThrowsAt, Throws, EntersAt, Calls, Tries}
@@ -114,9 +115,9 @@ pub if_otherwise : (w : ℕ) → w ≡ 2 * 2 ^ 32 → Chooses w (Some false)
 unfolding if_out value_of value_with tag_of payload_of
 if_otherwise w e p h s a b = rw e
 
-pub if_fails : (w : ℕ) → IsValue w → (w ≡ 2 * 2 ^ 32 + 1 → ⊥) → (w ≡ 2 * 2 ^ 32 → ⊥) → Chooses w None
+pub if_fails : (w : ℕ) → (w ≡ 2 * 2 ^ 32 + 1 → ⊥) → (w ≡ 2 * 2 ^ 32 → ⊥) → Chooses w None
 unfolding if_out word_of
-if_fails w k m n p h s a b = go (value_at w) (written_word w k)
+if_fails w m n p h s a b = read (value_of w) refl
   where
     go : (v : Value) → word_of v ≡ w → if_out p h s v a b ≡ Out.stuck 0 p
     go Value.Unit e = refl
@@ -125,6 +126,10 @@ if_fails w k m n p h s a b = go (value_at w) (written_word w k)
     go (Value.Bool false) e = absurd (n (sym e))
     go (Intg i) e = refl
     go (Addr x) e = refl
+
+    read : (o : Maybe Value) → value_of w ≡ o → if_out p h s (written o) a b ≡ Out.stuck 0 p
+    read None e = refl
+    read (Some v) e = go v (decode_encode w v e)
 
 -- a value that is neither null nor an address
 module _ (w : ℕ) (k : IsValue w) (m : w / 2 ^ 32 ≡ 1 → ⊥) (n : w / 2 ^ 32 ≡ 4 → ⊥) where

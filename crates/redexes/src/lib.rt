@@ -67,10 +67,9 @@ pub fn eq_redex(v: u64, w: u64) -> u64
     if v == w { 2 * TAG + 1 } else { 2 * TAG }
 }
 
-// An If on a value: what its condition says, where it says something.
+// An If on the value of a word: what its condition says, where it says something. A word that stands for no value says nothing.
 #[tactic(auto, using(crate::specs::RedexLaws::if_then, crate::specs::RedexLaws::if_otherwise, crate::specs::RedexLaws::if_fails))]
 pub fn if_redex(w: u64) -> Option<bool>
-    requires { IsValue w }
     ensures { Chooses w result }
 {
     if w == 2 * TAG + 1 {

@@ -219,7 +219,7 @@ module _ (ws : List ℕ) (l : Layout) (g : Good ws l) where
         (b, omega (arith, g.small.classes, g.lay.class_count_lem), rw (u.count s b) (few ws l g short s (omega arith)))
 
     -- there is room for one field more
-    part_room : {types : List ℕ} {c j m : ℕ} → Part ws types c j m → 0 < c → c < class_count ws → j < field_count ws
+    pub part_room : {types : List ℕ} {c j m : ℕ} → Part ws types c j m → 0 < c → c < class_count ws → j < field_count ws
         → field_word ws j 0 ≡ c → m < most_fields_above
     part_room {types} {c} {j} {m} w p h k e =
         let f = part_few ws l g c (suc j) p h (omega arith) in

@@ -156,7 +156,7 @@ module _ (image : Image) (n : ℕ) (w : n < image.layout.node_count) where
   holds : node_holds ws n ≡ true
   holds = image.good.nodes n (omega (arith, image.good.lay.node_count_lem))
 
-  node_names : Names (kind_of (node_word ws n 0)) (node_word ws n 2) (node_word ws n 3)
+  pub node_names : Names (kind_of (node_word ws n 0)) (node_word ws n 2) (node_word ws n 3)
   unfolding node_holds
   node_names =
       names (class_count ws) (kind_of (node_word ws n 0)) (node_word ws n 2) (node_word ws n 3)

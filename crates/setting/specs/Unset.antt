@@ -3,7 +3,7 @@ use Rattle.std.specs.Prelude.{◌≡◌, refl, true, List, ℕ, Result, Ok, Err,
 use Rattle.std.proofs.Common.{sym, ◌∙◌, arith, leb-true}
 use Rattle.std.proofs.Math.Path.{ap}
 use Rattle.std.proofs.Math.ListN.{length}
-use Rattle.std.specs.declared.option.Option.TheVariants.{Some}
+use Rattle.std.specs.declared.option.Option.TheVariants.{Some, None}
 use Rattle.std.specs.Result.{result_err}
 use Rattle.order.specs.Rules.{first_place}
 use Rattle.words.specs.Types.{type_of}
@@ -33,7 +33,7 @@ use Rattle.figures.proofs.Bodies.{told, body_told, main_told, none_told, held_on
 
 -- ONE TREE
 -- what a tree's check says of its tests, and of their first failure where its nodes stand from b on
-all_set : (e : Expr) (I K : Vars) → ok K ≡ setting e I → AllHold (reads e I)
+pub all_set : (e : Expr) (I K : Vars) → ok K ≡ setting e I → AllHold (reads e I)
 all_set e I K q = (setting_exactly e I).0 (sym q ∙ ap ok (sym (setting_after e I K (sym q))))
 
 first_unset : (e : Expr) (I : Vars) (p b n : ℕ) → places e ≡ stretch (λ j. j) b n → bad p ≡ setting e I → Told b (reads e I) p
@@ -109,9 +109,18 @@ module _ (image : Image) where
       body_told starts 13 (reads (main ws) (between 1 (input_count ws))) p i m h
       (first_unset (method_at ws i).body (between 0 (length (method_at ws i).params)) p (body_start ws i) (body_start ws (suc i)) (body_places ws hold filled i m) q)
 
-  pub method_set : (i : ℕ) (K : Vars) → Held i → ok K ≡ setting (method_at ws i).body (between 0 (length (method_at ws i).params)) → Held (i + 1)
+  pub method_set : (i : ℕ) (K : Vars) → ok K ≡ setting (method_at ws i).body (between 0 (length (method_at ws i).params)) → AllHold (method_reads ws i)
   unfolding method_reads
-  method_set i K h q = held_on (method_reads ws) i h (all_set (method_at ws i).body (between 0 (length (method_at ws i).params)) K q)
+  method_set i K q = all_set (method_at ws i).body (between 0 (length (method_at ws i).params)) K q
+
+  pub method_held : (i : ℕ) (K : Vars) → Held i → ok K ≡ setting (method_at ws i).body (between 0 (length (method_at ws i).params)) → Held (i + 1)
+  method_held i K h q = held_on (method_reads ws) i h (method_set i K q)
+
+  pub none_unset : (K : Vars) → Held l.method_count → ok K ≡ setting (main ws) (between 1 (input_count ws)) → None ≡ first_place (setting_rule ws)
+  unfolding setting_rule all_reads
+  none_unset K h q =
+      none_told (method_reads ws) (method_count ws) 13 (reads (main ws) (between 1 (input_count ws))) (λ j k. h j (omega (arith, g.lay.method_count_lem)))
+      (all_set (main ws) (between 1 (input_count ws)) K q)
 
   -- main's answer is the rule's, once each method's body passed
   pub main_place : Held l.method_count → (r : Result Marked ℕ) → res_of r ≡ setting (main ws) (between 1 (input_count ws)) → result_err r ≡ first_place (setting_rule ws)
@@ -119,6 +128,4 @@ module _ (image : Image) where
   main_place h (Err p) q =
       main_told starts 13 (reads (main ws) (between 1 (input_count ws))) p (λ j k. h j (omega (arith, g.lay.method_count_lem)))
       (first_unset (main ws) (between 1 (input_count ws)) p (body_start ws (method_count ws)) (node_count ws) (main_places ws hold filled) q)
-  main_place h (Ok v) q =
-      none_told (method_reads ws) (method_count ws) 13 (reads (main ws) (between 1 (input_count ws))) (λ j k. h j (omega (arith, g.lay.method_count_lem)))
-      (all_set (main ws) (between 1 (input_count ws)) (vars_of v) q)
+  main_place h (Ok v) q = none_unset (vars_of v) h q

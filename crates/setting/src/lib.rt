@@ -147,7 +147,7 @@ fn settle_main(image: &Image) -> Settled
 }
 
 // 13: the first node that reads a variable which is not surely set. The lines are those of `typing::untyped_place` around another check.
-#[tactic(auto, using(crate::specs::Unset::main_place, crate::specs::Unset::method_set, crate::specs::Unset::method_unset))]
+#[tactic(auto, using(crate::specs::Unset::main_place, crate::specs::Unset::method_held, crate::specs::Unset::method_unset))]
 pub fn unset_place(image: &Image) -> Option<usize>
     ensures { result ≡ first_place (setting_rule image.now.words.now) }
 {

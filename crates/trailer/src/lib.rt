@@ -46,16 +46,16 @@ pub fn trailer_place(ws: &[u32]) -> Option<usize>
     let methods = image::trailer_word(ws, 2);
     let types = image::trailer_word(ws, 3);
     let nodes = image::trailer_word(ws, 4);
-    let tests = [
-        classes == ws.len(),
-        section_holds(classes, fields, 1),
-        section_holds(fields, methods, 3),
-        section_holds(methods, types, 6),
-        last_holds(types, nodes),
-        true,
-        image::trailer_word(ws, 6) <= types.saturating_sub(nodes),
-    ];
-    order::first_broken(7, |i| tests[i])
+    // A match, and no array of all: a broken word is told before the words behind it are tested.
+    order::first_broken(7, |i| match i {
+        0 => classes == ws.len(),
+        1 => section_holds(classes, fields, 1),
+        2 => section_holds(fields, methods, 3),
+        3 => section_holds(methods, types, 6),
+        4 => last_holds(types, nodes),
+        5 => true,
+        _ => image::trailer_word(ws, 6) <= types.saturating_sub(nodes),
+    })
 }
 
 // 3: the trailer word of the first section over its ceiling.

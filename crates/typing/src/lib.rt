@@ -39,7 +39,11 @@ fn type_list(image: &Image, env: &mut [Option<Ty>], n: usize) -> Types
     let count = node_types::operand_total(image, n);
     let mut types = [Ty::Void; 9];
     for i in 0..count {
-        types[i] = type_operand(image, env, n, count - 1 - i)?;
+        // No `?`: the place that 12 tells has a name here, so that an edit can tell another and change nothing else.
+        match type_operand(image, env, n, count - 1 - i) {
+            Ok(t) => types[i] = t,
+            Err(p) => return Err(p),
+        }
     }
     Ok(types)
 }

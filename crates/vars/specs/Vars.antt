@@ -2,9 +2,10 @@
 use Rattle.std.specs.Prelude.{◌≡◌, refl, Bool, true, false, cond, ◌&&◌, ℕ, ◌+◌, ◌*◌, ◌-◌, ◌%◌, ◌^◌, ◌≤◌, ◌<◌, min, max, eqb, ltb, leb}
 use Rattle.std.proofs.Common.{sym, ◌∙◌, ap, arith, eqb-true, ltb-true, ltb-false}
 use Rattle.std.proofs.Math.Path.{fun_ext}
+use Rattle.std.proofs.Math.Pow.{pow-lt}
 use Rattle.std.specs.Int.{bit_at, bit_not, w64}
-use Rattle.std.specs.Int.Bits.{bit_and, bit_or}
-use Rattle.std.proofs.lemmas.Nat.Bits.{bit_at-lt, bit_at-zero, bit_at_and, bit_at_ones, bit_at_ones_above, bit_at_above, bit_at_set_same, bit_at_set_other, bit_at_clear_same, bit_at_clear_other}
+use Rattle.std.specs.Int.Bits.{bit_and, bit_or, bit_xor}
+use Rattle.std.proofs.lemmas.Nat.Bits.{bit_at-lt, bit_at-zero, bit_at_and, bit_at_or, bit_at_xor, bit_at-pow_same, bit_at-pow_other, bit_at_ones, bit_at_ones_above, bit_at_above, bit_at_set_same, bit_at_set_other, bit_at_clear_same, bit_at_clear_other}
 use Rattle.std.proofs.lemmas.Bool.{eqb-false}
 use Rattle.std.proofs.lemmas.Bool.Decides.{nat_tests}
 use Rattle.image.specs.Numbers.{variables}
@@ -53,9 +54,9 @@ module _ (w x : ℕ) (h : x < variables) where
   abbrev cleared : ℕ
   cleared = bit_and w (bit_not w64 (1 * 2 ^ x % 2 ^ variables))
 
-  pub marks_without : w < 2 ^ variables → marks cleared ≡ upd (marks w) x false
+  pub marks_cleared : w < 2 ^ variables → marks cleared ≡ upd (marks w) x false
   unfolding marks upd
-  marks_without l = fun_ext (λ y. go y (eqb x y) refl (ltb y variables) refl)
+  marks_cleared l = fun_ext (λ y. go y (eqb x y) refl (ltb y variables) refl)
     where
       go : (y : ℕ) (t : Bool) → eqb x y ≡ t → (u : Bool) → ltb y variables ≡ u → eqb (bit_at cleared y) 1 ≡ cond t false (eqb (bit_at w y) 1)
       go y true e u f = rw (← eqb-true x y e) (ap (λ (n : ℕ). eqb n 1) (bit_at_clear_same w64 w x h))
@@ -64,6 +65,26 @@ module _ (w x : ℕ) (h : x < variables) where
           let z = bit_at_above w variables y l (ltb-false y variables f) in
           let m : bit_at cleared y ≡ bit_at w y = omega (arith, bit_at_and w (bit_not w64 (1 * 2 ^ x % 2 ^ variables)) y, z) in
           ap (λ (n : ℕ). eqb n 1) m
+
+-- the digit set, and then turned over
+pub marks_without : (w x : ℕ) → x < variables
+    → marks (bit_xor (bit_or w (1 * 2 ^ x % 2 ^ variables)) (1 * 2 ^ x % 2 ^ variables)) ≡ upd (marks w) x false
+unfolding marks upd
+marks_without w x h = rw shifted (fun_ext (λ y. go y (eqb x y) refl))
+  where
+    shifted : 1 * 2 ^ x % 2 ^ variables ≡ 2 ^ x
+    shifted = let l = pow-lt h in omega (arith, l)
+
+    go : (y : ℕ) (t : Bool) → eqb x y ≡ t → eqb (bit_at (bit_xor (bit_or w (2 ^ x)) (2 ^ x)) y) 1 ≡ cond t false (eqb (bit_at w y) 1)
+    go y true e =
+        let m : bit_at (bit_xor (bit_or w (2 ^ x)) (2 ^ x)) x ≡ 0 =
+        omega (arith, bit_at_xor (bit_or w (2 ^ x)) (2 ^ x) x, bit_at_or w (2 ^ x) x, bit_at-pow_same x, bit_at-lt w x) in
+        rw (← eqb-true x y e) (ap (λ (n : ℕ). eqb n 1) m)
+    go y false e =
+        let m : bit_at (bit_xor (bit_or w (2 ^ x)) (2 ^ x)) y ≡ bit_at w y =
+        omega
+        (arith, bit_at_xor (bit_or w (2 ^ x)) (2 ^ x) y, bit_at_or w (2 ^ x) y, bit_at-pow_other x y (λ q. eqb-false x y e (sym q)), bit_at-lt w y) in
+        ap (λ (n : ℕ). eqb n 1) m
 
 pub marks_meet : (a b : ℕ) → marks (bit_and a b) ≡ meet (marks a) (marks b)
 unfolding marks meet

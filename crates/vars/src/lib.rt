@@ -59,7 +59,7 @@ impl Vars {
         }
     }
 
-    #[tactic(auto, using(crate::specs::Vars::marks_without))]
+    #[tactic(auto, using(crate::specs::Vars::marks_cleared))]
     pub fn without(self, x: usize) -> Self
         requires { x < variables }
         ensures { vars_of result ≡ upd (vars_of self) x false }

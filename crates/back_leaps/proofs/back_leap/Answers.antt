@@ -42,11 +42,11 @@ overflow_sub-p c = let n = first_node _ _ _ _ _ _ _ 11 refl (comes c.args.image.
 
 pub choice-requires : goal.choice-requires
 unfolding shape_of kind_of operands
-choice-requires c = (tabled c.args.image.now.good, first_node _ _ _ _ _ _ _ 12 refl (comes c.args.image.now.good c.requires 12 (numbered _ If (sym c.in-If.is ∙ c.from.ensures))), c.requires.0.here)
+choice-requires c = (tabled c.args.image.now.good, first_node _ _ _ _ _ _ _ 12 refl (comes c.args.image.now.good c.requires 12 (numbered _ If (sym c.in-If.is ∙ c.from.ensures))))
 
 pub test-requires : goal.test-requires
 unfolding shape_of kind_of operands
-test-requires c = let n = test_node _ _ _ _ _ _ _ (comes c.args.image.now.good c.requires 13 (numbered _ Test (sym c.in-Test.is ∙ c.from.ensures))) in (inner_node c.args.image.now.good c.requires _ 13 n (omega arith), long_room c.args.image.now.good c.requires, c.requires.0.here)
+test-requires c = let n = test_node _ _ _ _ _ _ _ (comes c.args.image.now.good c.requires 13 (numbered _ Test (sym c.in-Test.is ∙ c.from.ensures))) in (inner_node c.args.image.now.good c.requires _ 13 n (omega arith), long_room c.args.image.now.good c.requires)
 
 pub throw-requires : goal.throw-requires
 throw-requires c = c.requires.0.here

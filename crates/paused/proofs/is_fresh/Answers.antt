@@ -1,9 +1,10 @@
 -- `paused::is_fresh` meets its contract.
-use Rattle.paused.specs.EveryLaws.{fresh_all, fresh_not}
+use mathlib.Core.Path.{◌∙◌}
+use Rattle.paused.specs.EveryLaws.{list_blank, fresh_all, fresh_not}
 use Rattle.paused.proofs.is_fresh.Goals as goal
 
 pub returns-then-r : goal.returns-then-r
-returns-then-r c = fresh_all _ _ c.if-r.true c.is_blank.ensures
+returns-then-r c = c.zeros.ensures ∙ list_blank _ ∙ fresh_all _ _ c.if-r.true
 
 pub returns-else-r : goal.returns-else-r
 returns-else-r c = fresh_not _ _ c.if-r.false

@@ -3,7 +3,6 @@ use Rattle.node_rules.specs.Env.{operand_env, operand_typing}
 use Rattle.node_rules.specs.EnvLaws.{given_back, node_holds_lem, ok_set, operand_known}
 use Rattle.node_types.specs.Bound.{free_env}
 use Rattle.node_types.specs.ListLaws.{have_voids, list_bad, list_end, list_on, list_start, type_node as node-typing}
-use Rattle.std.proofs.lemmas.Result.{err_from_is_err_and}
 use Rattle.std.specs.Prelude.{Some}
 use mathlib.Core.Path.{◌∙◌, refl}
 use native.Mathlib.Omega.{arith}
@@ -12,13 +11,12 @@ use Rattle.typing.proofs.+type_list_type_node_type_operand.Goals as goal
 pub type_list-loop-i-init : goal.type_list-loop-i-init
 type_list-loop-i-init t c = (refl, list_start _ _ _ _ refl (have_voids _))
 
-pub type_list-returns-in_err-types : goal.type_list-returns-in_err-types
-type_list-returns-in_err-types t c =
-    let p = err_from_is_err_and c.from_residual.result c.from_residual.ensures.1 in
+pub type_list-returns-in-Err : goal.type_list-returns-in-Err
+type_list-returns-in-Err t c =
     let h = node_holds_lem _ _ c.args.image.now.good c.args.n c.requires.1 in
     let l = rw c.operand_total-count.ensures.0 at c.loop-i-test.true in
-    let s = rw (c.operand_total-count.ensures.0, c.loop-i.invariant.0) at c.in_err-types.ensures.0.says in (
-      rw (p.1, p.2) (record { says = list_bad _ _ _ h c.requires.0 _ _ c.loop-i.invariant.1 l _ s; known = tt }),
+    let s = rw (c.operand_total-count.ensures.0, c.loop-i.invariant.0) at c.in-Err.ensures.0.says in (
+      record { says = list_bad _ _ _ h c.requires.0 _ _ c.loop-i.invariant.1 l _ s; known = tt },
       c.type_operand.ensures.1 ∙ c.loop-i.invariant.0,
     )
 
@@ -26,9 +24,9 @@ pub type_list-loop-i-preserved : goal.type_list-loop-i-preserved
 type_list-loop-i-preserved t c =
     let h = node_holds_lem _ _ c.args.image.now.good c.args.n c.requires.1 in
     let l = rw c.operand_total-count.ensures.0 at c.loop-i-test.true in
-    let s = rw (c.operand_total-count.ensures.0, c.loop-i.invariant.0) at c.in_ok-types.ensures.0.says in (
+    let s = rw (c.operand_total-count.ensures.0, c.loop-i.invariant.0) at c.in-Ok.ensures.0.says in (
       c.type_operand.ensures.1 ∙ c.loop-i.invariant.0,
-      list_on _ _ _ h c.requires.0 _ _ c.loop-i.invariant.1 l _ s (omega arith) c.in_ok-types.ensures.0.known,
+      list_on _ _ _ h c.requires.0 _ _ c.loop-i.invariant.1 l _ s (omega arith) c.in-Ok.ensures.0.known,
     )
 
 pub type_list-returns : goal.type_list-returns
